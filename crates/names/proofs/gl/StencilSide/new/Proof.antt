@@ -1,0 +1,13 @@
+-- `names::gl::StencilSide::new` meets its contract: field by field, by the contracts of the maps that it calls. Assumes nothing.
+use borrow.Author.Needs.{needs}
+use Rattle.names.proofs.gl.StencilSide.new.Statement.{statement}
+use Rattle.names.proofs.gl.StencilSide.new.Tie as tie
+
+new-requires : tie.Need-new-requires
+new-requires c κs = search needs
+
+returns : tie.Need-returns
+returns c = simp (c .new .ensures)
+
+pub new-spec : {M : Type 1} → statement M
+new-spec = tie.close (tie.spec new-requires returns)
