@@ -14,7 +14,7 @@ use lib.Arith.{digits-div, digits-mod, lt-one, bin-ind}
 use lib.ListN.{length, getD, set, take, length-take}
 use lib.Pow.{pow-lt, pow-pos, pow-mono}
 use lib.Count.{ones, ones-step, ones-le, trailingZeros, trailing-of-zero}
-use lib.Bits.{bitAnd, bitOr, bitXor, differ, and-step, or-step, xor-step, and-self, xor-zero-r, or-shifted-r, and-le-r, and-zero-r, and-zero-l, or-zero-r, and-mask}
+use lib.Bits.{bitAnd, bitOr, bitXor, differ, and-step, or-step, xor-step, and-self, xor-zero-r, or-shifted-r, and-le-r, and-zero-r, and-zero-l, or-zero-r, or-lt, and-mask}
 use Rattle.mask.specs.Mask.{isOne, digitOf, odd, testBit, bitAt, setBit, setBitIf, without, clearBit, rest, maskOf, flagsOf, cons?, placesFrom, places}
 
 -- ---- digits
@@ -392,3 +392,11 @@ bit-test m i h = go (ltb i 32) refl
     go false e =
         let l : 32 ≤ i = ltb-false i 32 e in
         rw (bit-none i l, and-zero-r, test-beyond 32 m i h l)
+
+-- ---- what stays within k places
+pub and-lt : (k a b : ℕ) → b < 2 ^ k → bitAnd a b < 2 ^ k
+and-lt k a b h = omega (arith, and-le-r a b)
+
+pub set-lt : (k m j : ℕ) → m < 2 ^ k → j < k → k ≤ 32 → setBit m j < 2 ^ k
+unfolding setBit
+set-lt k m j h l w = or-lt k m (bitAt j) h (subst (λ (x : ℕ). x < 2 ^ k) (sym (bit-at j (omega arith))) (pow-lt l))

@@ -1,0 +1,1 @@
+// Lists by place: only definitions and laws, in specs/.
