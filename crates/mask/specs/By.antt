@@ -66,12 +66,15 @@ by-next i f h =
     and-true : (b : Bool) → b && true ≡ b
     and-true true = refl
     and-true false = refl
+
     and-false : (b : Bool) → b && false ≡ false
     and-false true = refl
     and-false false = refl
+
     or-false : (b : Bool) → b || false ≡ b
     or-false true = refl
     or-false false = refl
+
     at : (j : ℕ) → j < suc i → Dec (j ≡ i) → (testBit (maskBy i f) j || (f i && eqb j i)) ≡ f j
     at j l (yes e) = rw (eq-eqb j i e, by-beyond i f j (omega arith)) (and-true (f i) ∙ ap f (sym e))
     at j l (no ne) = rw (ne-eqb j i ne, and-false (f i), or-false (testBit (maskBy i f) j)) (by-at i f j (omega arith))

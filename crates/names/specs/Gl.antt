@@ -155,3 +155,40 @@ FUNC-SUBTRACT = 0x800A
 
 abbrev pub FUNC-REVERSE-SUBTRACT : ℕ
 FUNC-REVERSE-SUBTRACT = 0x800B
+
+-- sections 6 and 10.3.1, buffer targets
+abbrev pub UNIFORM-BUFFER : ℕ
+UNIFORM-BUFFER = 0x8A11
+
+abbrev pub SHADER-STORAGE-BUFFER : ℕ
+SHADER-STORAGE-BUFFER = 0x90D2
+
+abbrev pub COPY-READ-BUFFER : ℕ
+COPY-READ-BUFFER = 0x8F36
+
+abbrev pub COPY-WRITE-BUFFER : ℕ
+COPY-WRITE-BUFFER = 0x8F37
+
+-- section 9.2, attachment points; colour place i is COLOR_ATTACHMENT0 + i
+abbrev pub COLOR-ATTACHMENT0 : ℕ
+COLOR-ATTACHMENT0 = 0x8CE0
+
+abbrev pub DEPTH-ATTACHMENT : ℕ
+DEPTH-ATTACHMENT = 0x8D00
+
+abbrev pub STENCIL-ATTACHMENT : ℕ
+STENCIL-ATTACHMENT = 0x8D20
+
+abbrev pub DEPTH-STENCIL-ATTACHMENT : ℕ
+DEPTH-STENCIL-ATTACHMENT = 0x821A
+
+-- section 10.5, index types
+abbrev pub UNSIGNED-SHORT : ℕ
+UNSIGNED-SHORT = 0x1403
+
+abbrev pub UNSIGNED-INT : ℕ
+UNSIGNED-INT = 0x1405
+
+-- section 15.1.2, both faces
+abbrev pub FRONT-AND-BACK : ℕ
+FRONT-AND-BACK = 0x0408

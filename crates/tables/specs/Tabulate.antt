@@ -86,6 +86,7 @@ module _ {A : Type 0} where
       near j ne true false p q = let a = ltb-true j i p in let b = ltb-false j (suc i) q in absurd (omega arith)
       near j ne false true p q = let a = ltb-false j i p in let b = ltb-true j (suc i) q in absurd (ne (omega arith))
       near j ne false false p q = refl
+
       at : (j : ℕ) → Dec (j ≡ i) → upd (renewed old new i) i (new i) j ≡ renewed old new (suc i) j
       at j (yes e) = rw (eq-eqb j i e, lt-ltb j (suc i) (omega arith)) (ap new (sym e))
       at j (no ne) = rw (ne-eqb j i ne) (near j ne (ltb j i) (ltb j (suc i)) refl refl)

@@ -1,0 +1,50 @@
+-- `set_immediates`: document 01, "Bindings and immediates". Definitions only.
+use Prim.Native.Nat.{ℕ, zero, suc, _+_, _*_, _/_, _%_, _^_}
+use mathlib.Core.Bool.{Bool, true, false, not, _||_}
+use mathlib.Core.List.{List, [], _∷_, _++_}
+use lib.Dec.{ltb, leb, eqb}
+use lib.ListN.{take, drop, length}
+use Rattle.records.specs.declared.command.Command.{Command}
+use Rattle.records.specs.declared.command.Command.the-variants.{SetImmediates}
+use Rattle.records.specs.declared.command.ImmediateDesc.{ImmediateDesc}
+use Rattle.records.specs.declared.state.ImmediateState.{ImmediateState}
+
+-- the words of a list from the place at on are those of ws
+abbrev pub overwritten : List ℕ → ℕ → List ℕ → List ℕ
+overwritten old at ws = take at old ++ (ws ++ drop (at + length ws) old)
+
+abbrev pub descriptorsOf : ImmediateState → List ImmediateDesc
+descriptorsOf i = take (i .count) (i .descs)
+
+-- the state's words after the call
+abbrev pub immediatesState : ImmediateState → ℕ → List ℕ → ImmediateState
+immediatesState i offset ws = record { descs = i .descs; count = i .count; words = overwritten (i .words) (offset / 4) ws }
+
+-- "Words go to the marker bytes little-endian"
+abbrev pub littleEndian : ℕ → List ℕ
+littleEndian w = (w % 256) ∷ (w / 2 ^ 8 % 256) ∷ (w / 2 ^ 16 % 256) ∷ (w / 2 ^ 24 % 256) ∷ []
+
+unfoldable pub bytesOf : List ℕ → List ℕ
+bytesOf [] = []
+bytesOf (w ∷ ws) = littleEndian w ++ bytesOf ws
+
+-- the words of a descriptor
+abbrev pub wordsOf : List ℕ → ImmediateDesc → List ℕ
+wordsOf ws d = take (d .«size_bytes» / 4) (drop (d .offset / 4) ws)
+
+-- whether a written range of words and a descriptor's share one, as the Rust tests it
+abbrev pub overlaps : ℕ → ℕ → ImmediateDesc → Bool
+overlaps start end d = ltb start (d .offset / 4 + d .«size_bytes» / 4) || leb (d .offset / 4) end
+
+-- "`set_immediates` sends every descriptor", each with its place in the marker bytes
+unfoldable pub immediateCommands : List ImmediateDesc → ℕ → List Command
+immediateCommands [] at = []
+immediateCommands (d ∷ ds) at = SetImmediates d at ∷ immediateCommands ds (at + d .«size_bytes»)
+
+unfoldable pub immediateBytes : List ℕ → List ImmediateDesc → List ℕ
+immediateBytes ws [] = []
+immediateBytes ws (d ∷ ds) = bytesOf (wordsOf ws d) ++ immediateBytes ws ds
+
+-- 3: a byte offset that is no multiple of 4; first word plus count of words above 64
+abbrev pub immediatesOutOfRange : ℕ → ℕ → Bool
+immediatesOutOfRange offset count = not (eqb (offset % 4) 0) || ltb 64 (offset / 4 + count)

@@ -1,0 +1,4 @@
+pub mod Units
+pub mod Group
+pub mod Immediates
+pub mod Overlap

@@ -1,0 +1,16 @@
+pub mod View
+pub mod Machine
+pub mod Found
+pub mod Book
+pub mod Lists
+pub mod Sweep
+pub mod Invariant
+pub mod Accepted
+pub mod Prepared
+pub mod PipedVertex
+pub mod UnitLaws
+pub mod PipedFixed
+pub mod Drawing
+pub mod Idle
+pub mod Group
+pub mod Keeps

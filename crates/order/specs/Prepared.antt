@@ -1,0 +1,225 @@
+-- What a draw's sweep over the vertex slots leaves on the machine: every slot, or every attribute, that the pipeline reads holds what the state says at the draw's working instance. Assumes nothing.
+use Prim.Native.Nat.{ℕ, _+_, _<_}
+use mathlib.Core.Path.{_≡_, refl, sym, ap, ap₂, _∙_, subst}
+use mathlib.Core.Bool.{Bool, true, false, cond, not, _&&_, _||_}
+use mathlib.Core.List.{List, [], _∷_, map}
+use mathlib.Core.Option.{Option, none, some}
+use native.Mathlib.Omega.{arith}
+use lib.Dec.{eqb, leb}
+use lib.Bits.{bitAnd, bitOr}
+use borrow.Author.Tests.{eqb-true, eqb-false, leb-false}
+use Rattle.tables.specs.Tabulate.{upd, upd-same, upd-other}
+use Rattle.mask.specs.Mask.{testBit, places}
+use Rattle.mask.specs.Laws.{test-or, test-and}
+use Rattle.records.specs.Check.{some?, among, badAttribute, twice, locations}
+use Rattle.records.specs.declared.command.AttributeDesc.{AttributeDesc}
+use Rattle.records.specs.declared.command.BufferBinding.{BufferBinding}
+use Rattle.records.specs.declared.command.OptionU32.the-variants.{Some}
+use Rattle.records.specs.declared.command.VertexStepMode.{VertexStepMode}
+use Rattle.records.specs.declared.command.VertexStepMode.the-variants.{Vertex, Instance}
+use Rattle.records.specs.declared.command.VertexBufferDesc.{VertexBufferDesc}
+use Rattle.records.specs.declared.pipeline.PrivateCapabilities.{PrivateCapabilities}
+use Rattle.records.specs.declared.pipeline.RenderPipeline.{RenderPipeline}
+use Rattle.records.specs.declared.state.VertexState.{VertexState}
+use Rattle.slots.specs.Vertex.{stepOf, isInstance, slotAt, descAt, bindingAt, attributesOf}
+use Rattle.slots.specs.Prepare.{working, woken, rebound, instanceOffset, slotDesc, slotOffset, attributeOffset, sentOf, sent}
+use Rattle.pipeline.specs.Vertex.{pipeDesc, attributesIn, has, stepsByInstance, vertexOutOfRange, vertexAbsent, vertexTwice}
+use Rattle.order.specs.Lists.{false-true, true-false, or-left, or-right, not-false, both-ways, some-none, none-some, among-places, Each, each-with, each-not, each-always}
+use Rattle.order.specs.Machine.{Attribute, VertexBuffer, Vertices, putAttribute, putBuffer}
+use Rattle.order.specs.Sweep.{folded, swept, unfolded, passed, sifted}
+use Rattle.order.specs.Invariant.{slotBuffer, attributeBuffer, Slots, Fetched, DescribesOn}
+
+-- ---- one command of the sweep, on the machine's vertex data
+abbrev pub bufferAct : VertexState → ℕ → ℕ → Vertices → Vertices
+bufferAct v w i x = putBuffer i (slotBuffer v w i) x
+
+abbrev pub attributeAct : VertexState → ℕ → AttributeDesc → Vertices → Vertices
+attributeAct v w a x = putAttribute (a .location) (some (attributeBuffer v w a)) x
+
+-- ---- a slot that has a description
+pub desc-some : (v : VertexState) (i : ℕ) (o : Option VertexBufferDesc) → descAt v i ≡ o → has o ≡ true → (testBit (v .described) i ≡ true) × (o ≡ some (slotDesc v i))
+desc-some v i o e h = go (testBit (v .described) i) o e h
+  where
+    go : (t : Bool) (o : Option VertexBufferDesc) → cond t (some (slotDesc v i)) none ≡ o → has o ≡ true → (t ≡ true) × (o ≡ some (slotDesc v i))
+    go true o e h = (refl, sym e)
+    go false o e h = false-true (ap has e ∙ h)
+
+pub binding-some : (v : VertexState) (i : ℕ) (o : Option BufferBinding) → bindingAt v i ≡ o → has o ≡ true → (testBit (v .bound) i ≡ true) × (o ≡ some (record { raw = slotAt v i .raw; offset = slotAt v i .offset }))
+binding-some v i o e h = go (testBit (v .bound) i) o e h
+  where
+    go : (t : Bool) (o : Option BufferBinding) → cond t (some (record { raw = slotAt v i .raw; offset = slotAt v i .offset })) none ≡ o → has o ≡ true
+        → (t ≡ true) × (o ≡ some (record { raw = slotAt v i .raw; offset = slotAt v i .offset }))
+    go true o e h = (refl, sym e)
+    go false o e h = false-true (ap has e ∙ h)
+
+-- a described slot whose description does not step by instance
+steps-not : (v : VertexState) (i : ℕ) (o : Option VertexBufferDesc) → o ≡ some (slotDesc v i) → stepsByInstance o ≡ false → testBit (v .«by_instance») i ≡ false
+steps-not v i o e h = go (testBit (v .«by_instance») i) (sym (ap stepsByInstance e) ∙ h)
+  where
+    go : (t : Bool) → isInstance (stepOf t) ≡ false → t ≡ false
+    go true q = q
+    go false q = refl
+
+-- ---- a slot that a draw passes by
+quiet-dirty : (v : VertexState) (w i : ℕ) → testBit (woken v w) i ≡ false → testBit (v .«dirty_vbuf_mask») i ≡ false
+quiet-dirty v w i q = go (eqb w (v .«active_first_instance»)) q
+  where
+    go : (t : Bool) → testBit (cond t (v .«dirty_vbuf_mask») (bitOr (v .«dirty_vbuf_mask») (v .«instance_vbuf_mask»))) i ≡ false → testBit (v .«dirty_vbuf_mask») i ≡ false
+    go true e = e
+    go false e = or-left (testBit (v .«dirty_vbuf_mask») i) (testBit (v .«instance_vbuf_mask») i) (sym (test-or (v .«dirty_vbuf_mask») (v .«instance_vbuf_mask») i) ∙ e)
+
+-- its offset is that of the instance before: the instance is the same, or the slot does not step by instance
+settled : (v : VertexState) (w i : ℕ) → testBit (woken v w) i ≡ false → ((w ≡ v .«active_first_instance» → ⊥) → testBit (v .«instance_vbuf_mask») i ≡ false → testBit (v .«by_instance») i ≡ false)
+    → slotOffset v (v .«active_first_instance») i ≡ slotOffset v w i
+settled v w i q h = go (eqb w (v .«active_first_instance»)) refl q
+  where
+    alike : (t : Bool) (x y stride : ℕ) → t ≡ false → instanceOffset (stepOf t) x stride ≡ instanceOffset (stepOf t) y stride
+    alike true x y stride e = true-false e
+    alike false x y stride e = refl
+
+    differ : eqb w (v .«active_first_instance») ≡ false → w ≡ v .«active_first_instance» → ⊥
+    differ e p = eqb-false w (v .«active_first_instance») e p
+
+    go : (t : Bool) → eqb w (v .«active_first_instance») ≡ t → testBit (cond t (v .«dirty_vbuf_mask») (bitOr (v .«dirty_vbuf_mask») (v .«instance_vbuf_mask»))) i ≡ false
+        → slotOffset v (v .«active_first_instance») i ≡ slotOffset v w i
+    go true e p = ap (λ (x : ℕ). slotOffset v x i) (sym (eqb-true w (v .«active_first_instance») e))
+    go false e p =
+        alike (testBit (v .«by_instance») i) (v .«active_first_instance») w (slotAt v i .stride)
+        (h (differ e) (or-right (testBit (v .«dirty_vbuf_mask») i) (testBit (v .«instance_vbuf_mask») i) (sym (test-or (v .«dirty_vbuf_mask») (v .«instance_vbuf_mask») i) ∙ p)))
+
+-- ---- the mask to be rebound, at a slot that is described and bound
+rebound-at : (v : VertexState) (w i : ℕ) → testBit (v .described) i ≡ true → testBit (v .bound) i ≡ true → testBit (rebound v w) i ≡ testBit (woken v w) i
+rebound-at v w i d b =
+    test-and (bitAnd (woken v w) (v .described)) (v .bound) i
+    ∙ ap₂ (λ (x y : Bool). x && y) (test-and (woken v w) (v .described) i) b
+    ∙ ap (λ (x : Bool). (testBit (woken v w) i && x) && true) d
+    ∙ go (testBit (woken v w) i)
+  where
+    go : (t : Bool) → (t && true) && true ≡ t
+    go true = refl
+    go false = refl
+
+-- ---- what refusals 3 and 4 say of each attribute
+abbrev pub Ranged : AttributeDesc → Type 0
+Ranged a = (a .location < 16) × (a .«buffer_index» < 16)
+
+pub ranged-each : (p : RenderPipeline) → vertexOutOfRange p ≡ false → Each Ranged (attributesIn p)
+ranged-each p e = more (attributesIn p) (each-not badAttribute (attributesIn p) e)
+  where
+    one : (a : AttributeDesc) → badAttribute a ≡ false → Ranged a
+    one a q = (leb-false 16 (a .location) (or-left (leb 16 (a .location)) (leb 16 (a .«buffer_index»)) q), leb-false 16 (a .«buffer_index») (or-right (leb 16 (a .location)) (leb 16 (a .«buffer_index»)) q))
+
+    more : (l : List AttributeDesc) → Each (λ (a : AttributeDesc). badAttribute a ≡ false) l → Each Ranged l
+    more [] h = tt
+    more (a ∷ l) h = (one a (h .0), more l (h .1))
+
+pub low-each : (l : List AttributeDesc) → Each Ranged l → Each (λ (a : AttributeDesc). a .location < 16) l
+low-each [] h = tt
+low-each (a ∷ l) h = (h .0 .0, low-each l (h .1))
+
+pub described-each : (p : RenderPipeline) → vertexAbsent p ≡ false → Each (λ (a : AttributeDesc). has (pipeDesc p (a .«buffer_index»)) ≡ true) (attributesIn p)
+described-each p e = more (attributesIn p) (each-not (λ (a : AttributeDesc). not (has (pipeDesc p (a .«buffer_index»)))) (attributesIn p) e)
+  where
+    more : (l : List AttributeDesc) → Each (λ (a : AttributeDesc). not (has (pipeDesc p (a .«buffer_index»))) ≡ false) l → Each (λ (a : AttributeDesc). has (pipeDesc p (a .«buffer_index»)) ≡ true) l
+    more [] h = tt
+    more (a ∷ l) h = (not-false (has (pipeDesc p (a .«buffer_index»))) (h .0), more l (h .1))
+
+-- the instance-stepping of a slot that the pipeline describes
+module _ (caps : PrivateCapabilities) (v : VertexState) (g : Vertices) (p : RenderPipeline) (F : Fetched caps v g p) where
+  no-step : (i : ℕ) → i < 16 → has (pipeDesc p i) ≡ true → testBit (v .«instance_vbuf_mask») i ≡ false → testBit (v .«by_instance») i ≡ false
+  no-step i l h e = steps-not v i (pipeDesc p i) (desc-some v i (pipeDesc p i) (F .kept i l h) h .1) (sym (F .instances i l) ∙ e)
+
+  -- ---- with layouts
+  module _ (D : ℕ → Bool) (buffer : ℕ → Option BufferBinding) (S : Slots caps D v g buffer) (P : DescribesOn caps D p) (layout : caps .«vertex_buffer_layout» ≡ true)
+      (w : ℕ) (zero-with : caps .«fully_featured_instancing» ≡ true → w ≡ 0) where
+    sets : (x : Vertices) (k i : ℕ) → bufferAct v w k x .buffer i ≡ cond (eqb i k) (some (slotBuffer v w i)) (x .buffer i)
+    sets x k i = go (eqb i k) refl
+      where
+        go : (t : Bool) → eqb i k ≡ t → cond t (some (slotBuffer v w k)) (x .buffer i) ≡ cond t (some (slotBuffer v w i)) (x .buffer i)
+        go true e = ap (λ (j : ℕ). some (slotBuffer v w j)) (sym (eqb-true i k e))
+        go false e = refl
+
+    instance-free : (i : ℕ) → i < 16 → testBit (v .described) i ≡ true → (w ≡ v .«active_first_instance» → ⊥) → testBit (v .«instance_vbuf_mask») i ≡ false → testBit (v .«by_instance») i ≡ false
+    instance-free i l d ne e = go (caps .«fully_featured_instancing») refl
+      where
+        go : (t : Bool) → caps .«fully_featured_instancing» ≡ t → testBit (v .«by_instance») i ≡ false
+        go true f = absurd (ne (zero-with f ∙ sym (S .still f)))
+        go false f = no-step i l (P layout f i l ∙ inside (D i) refl) e
+          where
+            inside : (t : Bool) → D i ≡ t → D i ≡ true
+            inside true q = q
+            inside false q = true-false (sym d ∙ S .only layout f i l q)
+
+    pub slot-after : (i : ℕ) → i < 16 → testBit (v .described) i ≡ true → testBit (v .bound) i ≡ true → folded (bufferAct v w) (places (rebound v w)) g .buffer i ≡ some (slotBuffer v w i)
+    slot-after i l d b =
+        swept (bufferAct v w) (λ (x : Vertices). x .buffer) (λ j. some (slotBuffer v w j)) sets (places (rebound v w)) g i
+        ∙ ap (λ (t : Bool). cond t (some (slotBuffer v w i)) (g .buffer i)) (among-places (rebound v w) i (in32 i l) ∙ rebound-at v w i d b)
+        ∙ go (testBit (woken v w) i) refl
+      where
+        in32 : (i : ℕ) → i < 16 → i < 32
+        in32 i l = omega arith
+
+        go : (t : Bool) → testBit (woken v w) i ≡ t → cond t (some (slotBuffer v w i)) (g .buffer i) ≡ some (slotBuffer v w i)
+        go true q = refl
+        go false q =
+            S .clean layout i l (quiet-dirty v w i q) d b
+            ∙ ap (λ (o : ℕ). some (record { binding = record { raw = slotAt v i .raw; offset = slotAt v i .offset + o }; desc = slotDesc v i })) (settled v w i q (instance-free i l d))
+
+    pub attribute-kept : folded (bufferAct v w) (places (rebound v w)) g .attribute ≡ g .attribute
+    attribute-kept = unfolded (bufferAct v w) (λ (x : Vertices). x .attribute) (λ k x. refl) (places (rebound v w)) g
+
+  -- ---- without
+  module _ (flat : caps .«vertex_buffer_layout» ≡ false) (w : ℕ) where
+    here : (a : AttributeDesc) (x : Vertices) → attributeAct v w a x .attribute (a .location) ≡ some (attributeBuffer v w a)
+    here a x = upd-same (x .attribute) (a .location) (some (attributeBuffer v w a))
+
+    other : (a : AttributeDesc) (x : Vertices) (i : ℕ) → (i ≡ a .location → ⊥) → attributeAct v w a x .attribute i ≡ x .attribute i
+    other a x i ne = upd-other (x .attribute) (a .location) i (some (attributeBuffer v w a)) ne
+
+    -- one attribute of the pipeline, after the sweep
+    one : (a : AttributeDesc) (x : Vertices) → Ranged a → has (pipeDesc p (a .«buffer_index»)) ≡ true
+        → (testBit (v .«dirty_vbuf_mask») (a .«buffer_index») ≡ false → testBit (v .bound) (a .«buffer_index») ≡ true → g .attribute (a .location) ≡ some (attributeBuffer v (v .«active_first_instance») a))
+        → x .attribute (a .location) ≡ cond (testBit (rebound v w) (a .«buffer_index»)) (some (attributeBuffer v w a)) (g .attribute (a .location))
+        → testBit (v .bound) (a .«buffer_index») ≡ true → x .attribute (a .location) ≡ some (attributeBuffer v w a)
+    one a x r h clean e b =
+        e
+        ∙ ap (λ (t : Bool). cond t (some (attributeBuffer v w a)) (g .attribute (a .location)))
+        (rebound-at v w (a .«buffer_index») (desc-some v (a .«buffer_index») (pipeDesc p (a .«buffer_index»)) (F .kept (a .«buffer_index») (r .1) h) h .0) b)
+        ∙ go (testBit (woken v w) (a .«buffer_index»)) refl
+      where
+        go : (t : Bool) → testBit (woken v w) (a .«buffer_index») ≡ t → cond t (some (attributeBuffer v w a)) (g .attribute (a .location)) ≡ some (attributeBuffer v w a)
+        go true q = refl
+        go false q =
+            clean (quiet-dirty v w (a .«buffer_index») q) b
+            ∙ ap (moved a) (settled v w (a .«buffer_index») q (λ ne e. no-step (a .«buffer_index») (r .1) h e))
+          where
+            moved : AttributeDesc → ℕ → Option Attribute
+            moved a o =
+                some
+                (record {
+                  buffer = Some (slotAt v (a .«buffer_index») .raw);
+                  desc = slotDesc v (a .«buffer_index»);
+                  attribute =
+                      record {
+                        location = a .location;
+                        offset = a .offset + slotAt v (a .«buffer_index») .offset + o;
+                        «buffer_index» = a .«buffer_index»;
+                        «format_desc» = a .«format_desc»;
+                      };
+                })
+
+    pub attributes-after : Each (λ (a : AttributeDesc). testBit (v .bound) (a .«buffer_index») ≡ true → folded (attributeAct v w) (sent v w) g .attribute (a .location) ≡ some (attributeBuffer v w a)) (attributesIn p)
+    attributes-after = go (attributesIn p) (ranged-each p (F .ranged)) (described-each p (F .described)) (F .clean flat) swept-each
+      where
+        swept-each : Each (λ (a : AttributeDesc). folded (attributeAct v w) (sent v w) g .attribute (a .location) ≡ cond (testBit (rebound v w) (a .«buffer_index»)) (some (attributeBuffer v w a)) (g .attribute (a .location))) (attributesIn p)
+        swept-each =
+            subst (λ (l : List AttributeDesc). Each (λ (a : AttributeDesc). folded (attributeAct v w) (sentOf (rebound v w) l) g .attribute (a .location) ≡ cond (testBit (rebound v w) (a .«buffer_index»)) (some (attributeBuffer v w a)) (g .attribute (a .location))) (attributesIn p))
+            (sym (F .held flat))
+            (sifted (attributeAct v w) (λ (x : Vertices). x .attribute) (λ (a : AttributeDesc). some (attributeBuffer v w a)) here other (rebound v w) (attributesIn p) (low-each (attributesIn p) (ranged-each p (F .ranged))) (F .apart) g)
+
+        go : (l : List AttributeDesc) → Each Ranged l → Each (λ (a : AttributeDesc). has (pipeDesc p (a .«buffer_index»)) ≡ true) l
+            → Each (λ (a : AttributeDesc). testBit (v .«dirty_vbuf_mask») (a .«buffer_index») ≡ false → testBit (v .bound) (a .«buffer_index») ≡ true → g .attribute (a .location) ≡ some (attributeBuffer v (v .«active_first_instance») a)) l
+            → Each (λ (a : AttributeDesc). folded (attributeAct v w) (sent v w) g .attribute (a .location) ≡ cond (testBit (rebound v w) (a .«buffer_index»)) (some (attributeBuffer v w a)) (g .attribute (a .location))) l
+            → Each (λ (a : AttributeDesc). testBit (v .bound) (a .«buffer_index») ≡ true → folded (attributeAct v w) (sent v w) g .attribute (a .location) ≡ some (attributeBuffer v w a)) l
+        go [] r h c e = tt
+        go (a ∷ l) r h c e = (one a (folded (attributeAct v w) (sent v w) g) (r .0) (h .0) (c .0) (e .0), go l (r .1) (h .1) (c .1) (e .1))

@@ -1,0 +1,106 @@
+-- Runs of commands of one kind, played: they change one group of the machine's settings, place by place. Assumes nothing.
+use Prim.Native.Nat.{ℕ, zero, suc, _+_, _<_}
+use mathlib.Core.Path.{_≡_, refl, sym, ap, ap₂, _∙_}
+use mathlib.Core.Bool.{Bool, true, false, cond, _&&_, _||_}
+use mathlib.Core.List.{List, [], _∷_, _++_, map}
+use mathlib.Core.Option.{Option, none, some}
+use native.Mathlib.Decide.{ℕ-discrete}
+use native.Mathlib.Omega.{arith}
+use lib.Dec.{eqb}
+use borrow.Author.Tests.{eq-eqb, ne-eqb}
+use Rattle.tables.specs.Tabulate.{upd, upd-same, upd-other}
+use Rattle.mask.specs.Mask.{testBit}
+use Rattle.records.specs.Check.{among, twice, locations}
+use Rattle.records.specs.declared.command.AttributeDesc.{AttributeDesc}
+use Rattle.records.specs.declared.command.Command.{Command}
+use Rattle.slots.specs.Prepare.{sentOf}
+use Rattle.order.specs.Lists.{Each, each-map, each-with, false-true, true-false, apart, apart-rest, elsewhere}
+use Rattle.order.specs.Machine.{Machine, exec, play}
+
+pub play-append : (m : Machine) (xs ys : List Command) → play m (xs ++ ys) ≡ play (play m xs) ys
+play-append m [] ys = refl
+play-append m (x ∷ xs) ys = play-append (exec m x) xs ys
+
+-- ---- a run of commands, each of which changes one group G of settings
+abbrev pub folded : {X G : Type 0} → (X → G → G) → List X → G → G
+folded act [] g = g
+folded act (x ∷ xs) g = folded act xs (act x g)
+
+module _ {X G : Type 0} (get : Machine → G) (put : G → Machine → Machine) (command : X → Command) (act : X → G → G)
+    (same : (m : Machine) → put (get m) m ≡ m)
+    (over : (m : Machine) (g h : G) → put g (put h m) ≡ put g m) (got : (m : Machine) (g : G) → get (put g m) ≡ g)
+    (does : (m : Machine) (x : X) → exec m (command x) ≡ put (act x (get m)) m) where
+  pub played : (xs : List X) (m : Machine) → play m (map command xs) ≡ put (folded act xs (get m)) m
+  played [] m = sym (same m)
+  played (x ∷ xs) m =
+      ap (λ (n : Machine). play n (map command xs)) (does m x)
+      ∙ played xs (put (act x (get m)) m)
+      ∙ over m (folded act xs (get (put (act x (get m)) m))) (act x (get m))
+      ∙ ap (λ (g : G). put (folded act xs g) m) (got m (act x (get m)))
+
+-- ---- the values at the places that a fold sets: by key, the value a function of the key
+module _ {G W : Type 0} (act : ℕ → G → G) (read : G → ℕ → W) (value : ℕ → W)
+    (sets : (g : G) (k i : ℕ) → read (act k g) i ≡ cond (eqb i k) (value i) (read g i)) where
+  pub swept : (ks : List ℕ) (g : G) (i : ℕ) → read (folded act ks g) i ≡ cond (among i ks) (value i) (read g i)
+  unfolding among
+  swept [] g i = refl
+  swept (k ∷ ks) g i = swept ks (act k g) i ∙ ap (λ (w : W). cond (among i ks) (value i) w) (sets g k i) ∙ go (among i ks) (eqb i k)
+    where
+      go : (s t : Bool) → cond s (value i) (cond t (value i) (read g i)) ≡ cond (t || s) (value i) (read g i)
+      go true true = refl
+      go true false = refl
+      go false true = refl
+      go false false = refl
+
+-- what no step of a fold changes
+pub unfolded : {X G W : Type 0} (act : X → G → G) (look : G → W) → ((x : X) (g : G) → look (act x g) ≡ look g) → (xs : List X) (g : G) → look (folded act xs g) ≡ look g
+unfolded act look keep [] g = refl
+unfolded act look keep (x ∷ xs) g = unfolded act look keep xs (act x g) ∙ keep x g
+
+-- ---- attributes, each at its own location
+module _ {G W : Type 0} (act : AttributeDesc → G → G) (read : G → ℕ → W) (value : AttributeDesc → W)
+    (here : (a : AttributeDesc) (g : G) → read (act a g) (a .location) ≡ value a)
+    (other : (a : AttributeDesc) (g : G) (i : ℕ) → (i ≡ a .location → ⊥) → read (act a g) i ≡ read g i) where
+  -- a location that none of the list has is left alone
+  pub passed : (l : List AttributeDesc) (g : G) (i : ℕ) → Each (λ (a : AttributeDesc). a .location ≡ i → ⊥) l → read (folded act l g) i ≡ read g i
+  passed [] g i h = refl
+  passed (a ∷ l) g i h = passed l (act a g) i (h .1) ∙ other a g i (λ e. h .0 (sym e))
+
+  -- each is set at its own location
+  pub allSet : (l : List AttributeDesc) → Each (λ (a : AttributeDesc). a .location < 16) l → twice (locations l) ≡ false → (g : G)
+      → Each (λ (a : AttributeDesc). read (folded act l g) (a .location) ≡ value a) l
+  allSet [] low e g = tt
+  allSet (a ∷ l) low e g = (passed l (act a g) (a .location) (elsewhere (a .location) l (apart a l (low .0) e)) ∙ here a g, allSet l (low .1) (apart-rest a l e) (act a g))
+
+  -- the ones of a mask of slots are set, and the others left
+  pub sifted : (m : ℕ) (l : List AttributeDesc) → Each (λ (a : AttributeDesc). a .location < 16) l → twice (locations l) ≡ false → (g : G)
+      → Each (λ (a : AttributeDesc). read (folded act (sentOf m l) g) (a .location) ≡ cond (testBit m (a .«buffer_index»)) (value a) (read g (a .location))) l
+  unfolding sentOf
+  sifted m [] low e g = tt
+  sifted m (a ∷ l) low e g = let r = go (testBit m (a .«buffer_index»)) (λ n. sifted m l (low .1) (apart-rest a l e) n) in (r .1, r .0)
+    where
+      far : Each (λ (x : AttributeDesc). x .location ≡ a .location → ⊥) l
+      far = elsewhere (a .location) l (apart a l (low .0) e)
+
+      fewer : (k : List AttributeDesc) → Each (λ (x : AttributeDesc). x .location ≡ a .location → ⊥) k → Each (λ (x : AttributeDesc). x .location ≡ a .location → ⊥) (sentOf m k)
+      fewer [] h = tt
+      fewer (x ∷ k) h = pick (testBit m (x .«buffer_index»)) (fewer k (h .1))
+        where
+          pick : (t : Bool) → Each (λ (x : AttributeDesc). x .location ≡ a .location → ⊥) (sentOf m k) → Each (λ (x : AttributeDesc). x .location ≡ a .location → ⊥) (cond t (x ∷ sentOf m k) (sentOf m k))
+          pick true r = (h .0, r)
+          pick false r = r
+
+      Rest : G → Type 0
+      Rest n = Each (λ (x : AttributeDesc). read (folded act (sentOf m l) n) (x .location) ≡ cond (testBit m (x .«buffer_index»)) (value x) (read n (x .location))) l
+
+      go : (t : Bool) → ((n : G) → Rest n)
+          → Each (λ (x : AttributeDesc). read (folded act (cond t (a ∷ sentOf m l) (sentOf m l)) g) (x .location) ≡ cond (testBit m (x .«buffer_index»)) (value x) (read g (x .location))) l
+          × (read (folded act (cond t (a ∷ sentOf m l) (sentOf m l)) g) (a .location) ≡ cond t (value a) (read g (a .location)))
+      go true ih = (
+        each-with (λ (x : AttributeDesc). x .location ≡ a .location → ⊥)
+            (λ (x : AttributeDesc). read (folded act (sentOf m l) (act a g)) (x .location) ≡ cond (testBit m (x .«buffer_index»)) (value x) (read (act a g) (x .location)))
+            (λ (x : AttributeDesc). read (folded act (sentOf m l) (act a g)) (x .location) ≡ cond (testBit m (x .«buffer_index»)) (value x) (read g (x .location)))
+            l (λ x ne q. q ∙ ap (cond (testBit m (x .«buffer_index»)) (value x)) (other a g (x .location) ne)) far (ih (act a g)),
+        passed (sentOf m l) (act a g) (a .location) (fewer l far) ∙ here a g,
+      )
+      go false ih = (ih g, passed (sentOf m l) g (a .location) (fewer l far))
