@@ -92,7 +92,7 @@ late first s e = let z : _≡_ {A = ℕ} 0 1 = cc in omega arith
 late later s e = let z : _≡_ {A = ℕ} 0 1 = cc in omega arith
 
 -- ---- the beginning
-nothing : {A : Type 0} (f : ℕ → A) → tabulate 0 f ≡ []
+pub nothing : {A : Type 0} (f : ℕ → A) → tabulate 0 f ≡ []
 unfolding tabulate
 nothing f = refl
 

@@ -14,3 +14,7 @@ pub mod Drawing
 pub mod Idle
 pub mod Group
 pub mod Keeps
+pub mod Calls
+pub mod VertexCalls
+pub mod DrawCalls
+pub mod Accept

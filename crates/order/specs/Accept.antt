@@ -1,0 +1,186 @@
+-- Each call keeps the tie: an accepted one by its own lemma, a refused one because it changes nothing. Assumes nothing.
+use Prim.Native.Nat.{ℕ, zero, suc, _+_, _*_, _<_}
+use mathlib.Core.Path.{_≡_, refl, sym, ap, _∙_, subst}
+use mathlib.Core.Bool.{Bool, true, false, cond, not, _&&_, _||_}
+use mathlib.Core.List.{List, [], _∷_, _++_, map, append-nil}
+use mathlib.Core.Option.{Option, none, some}
+use lib.Dec.{leb, eqb}
+use lib.ListN.{length, take}
+use borrow.Author.Tests.{leb-false}
+use Rattle.tables.specs.Tabulate.{tabulate}
+use Rattle.records.specs.Outcome.{accepted}
+use Rattle.records.specs.Check.{some?}
+use Rattle.records.specs.declared.check.Rooms.{Rooms}
+use Rattle.records.specs.declared.command.Command.{Command}
+use Rattle.records.specs.declared.command.Command.the-variants.{DrawIndirect, DrawIndexedIndirect}
+use Rattle.records.specs.declared.pipeline.PrivateCapabilities.{PrivateCapabilities}
+use Rattle.records.specs.declared.pipeline.RenderPipeline.{RenderPipeline}
+use Rattle.records.specs.declared.state.Phase.{Phase}
+use Rattle.records.specs.declared.state.Phase.the-variants.{Closed, Open, Render, Compute}
+use Rattle.records.specs.declared.state.State.{State}
+use Rattle.slots.specs.Prepare.{working, prepared}
+use Rattle.bindings.specs.Group.{entriesOf, entryOutOfRange}
+use Rattle.bindings.specs.Immediates.{descriptorsOf, immediatesState}
+use Rattle.pipeline.specs.Inner.{innerOutOfRange}
+use Rattle.pipeline.specs.Vertex.{vertexOutOfRange}
+use Rattle.pass.specs.Marks.{counted, beginTimestamp, pushLabel, popLabel, timestamp}
+use Rattle.pass.specs.Render.{endRenderPass, endComputePass}
+use Rattle.calls.specs.Call.{Call, begin-encoding, end-encoding, begin-render-pass, end-render-pass, begin-compute-pass, end-compute-pass, transition-buffers, transition-textures, clear-buffer, copy-buffer-to-buffer, copy-query-results, begin-query, end-query, write-timestamp, reset-queries, set-bind-group, set-immediates, set-render-pipeline, set-compute-pipeline, set-index-buffer, set-vertex-buffer, set-viewport, set-scissor-rect, set-stencil-reference, set-blend-constants, draw, draw-indexed, draw-indirect, draw-indexed-indirect, dispatch-workgroups, dispatch-workgroups-indirect}
+use Rattle.calls.specs.Transfers.{bufferBarriers, regionsOf}
+use Rattle.calls.specs.Settings.{viewportRect, scissorRect}
+use Rattle.calls.specs.Draws.{DrawArgs, drawCommand, drawIndexedCommand, indexType, indirectCommands, indexedIndirectCommands}
+use Rattle.calls.specs.Parts.{withProgress, drawArgs, drawn}
+use Rattle.calls.specs.Meaning.{Meaning, inPass}
+use Rattle.calls.specs.Step.{meaning, progressAfter, outcomeOf, Step, step}
+use Rattle.order.specs.Lists.{false-true, or-left, or-right}
+use Rattle.order.specs.Machine.{Stage, before, first, later, Machine, fresh, exec, play}
+use Rattle.order.specs.Book.{Book, enter}
+use Rattle.order.specs.Invariant.{First, Sane, DescribesOn, Tied}
+use Rattle.order.specs.Accepted.{in-phase, in-range, present, kinds}
+use Rattle.order.specs.Idle.{Idle, idle-append, idle-begin, idle-push, idle-pop, idle-timestamp, idle-buffers, idle-textures, idle-copies, idle-immediates, idle-dispatch}
+use Rattle.order.specs.Drawing.{Ready}
+use Rattle.order.specs.Keeps.{open-is, render-is, compute-is, started, recounted, idles, moves}
+use Rattle.order.specs.Calls.{by-begin-render, by-end-render, by-bind-group, by-compute-pipeline, by-index-buffer, by-screen, by-reference}
+use Rattle.order.specs.VertexCalls.{by-vertex-buffer, by-render-pipeline}
+use Rattle.order.specs.DrawCalls.{by-draw, by-indirect}
+
+-- ---- document 01's premises, of one accepted call
+-- "at each accepted draw of the first render pass the book has a pipeline and a buffer for each slot that this describes"; "with VERTEX_BUFFER_LAYOUT and without FULLY_FEATURED_INSTANCING all pipelines accepted in the pass describe the same slots"
+abbrev pub Premise : PrivateCapabilities → (ℕ → Bool) → Book → Call → Type 0
+Premise caps D b begin-encoding = Unit {0}
+Premise caps D b end-encoding = Unit {0}
+Premise caps D b end-render-pass = Unit {0}
+Premise caps D b end-compute-pass = Unit {0}
+Premise caps D b (begin-render-pass d label set) = Unit {0}
+Premise caps D b (begin-compute-pass t label set) = Unit {0}
+Premise caps D b (transition-buffers l) = Unit {0}
+Premise caps D b (transition-textures l) = Unit {0}
+Premise caps D b (clear-buffer x range) = Unit {0}
+Premise caps D b (copy-buffer-to-buffer src dst l) = Unit {0}
+Premise caps D b (copy-query-results set start end dst offset) = Unit {0}
+Premise caps D b (begin-query set i) = Unit {0}
+Premise caps D b (end-query set i) = Unit {0}
+Premise caps D b (write-timestamp set i) = Unit {0}
+Premise caps D b (reset-queries set start end) = Unit {0}
+Premise caps D b (set-bind-group l i e g os) = Unit {0}
+Premise caps D b (set-immediates offset ws) = Unit {0}
+Premise caps D b (set-render-pipeline p) = b .stage ≡ first → DescribesOn caps D p
+Premise caps D b (set-compute-pipeline p) = Unit {0}
+Premise caps D b (set-index-buffer raw offset format) = Unit {0}
+Premise caps D b (set-vertex-buffer i raw offset) = Unit {0}
+Premise caps D b (set-viewport r d) = Unit {0}
+Premise caps D b (set-scissor-rect r) = Unit {0}
+Premise caps D b (set-stencil-reference v) = Unit {0}
+Premise caps D b (set-blend-constants c) = Unit {0}
+Premise caps D b (draw vertex vertices instance instances) = b .stage ≡ first → Ready b
+Premise caps D b (draw-indexed fst count base instance instances) = b .stage ≡ first → Ready b
+Premise caps D b (draw-indirect raw offset n) = b .stage ≡ first → Ready b
+Premise caps D b (draw-indexed-indirect raw offset n) = b .stage ≡ first → Ready b
+Premise caps D b (dispatch-workgroups x y z) = Unit {0}
+Premise caps D b (dispatch-workgroups-indirect raw offset) = Unit {0}
+
+-- `begin_encoding` starts a new list: its machine is fresh
+abbrev pub resumed : Call → Machine → Machine
+resumed begin-encoding m = fresh
+resumed end-encoding m = m
+resumed end-render-pass m = m
+resumed end-compute-pass m = m
+resumed (begin-render-pass d label set) m = m
+resumed (begin-compute-pass t label set) m = m
+resumed (transition-buffers l) m = m
+resumed (transition-textures l) m = m
+resumed (clear-buffer x range) m = m
+resumed (copy-buffer-to-buffer src dst l) m = m
+resumed (copy-query-results set start end dst offset) m = m
+resumed (begin-query set i) m = m
+resumed (end-query set i) m = m
+resumed (write-timestamp set i) m = m
+resumed (reset-queries set start end) m = m
+resumed (set-bind-group l i e g os) m = m
+resumed (set-immediates offset ws) m = m
+resumed (set-render-pipeline p) m = m
+resumed (set-compute-pipeline p) m = m
+resumed (set-index-buffer raw offset format) m = m
+resumed (set-vertex-buffer i raw offset) m = m
+resumed (set-viewport r d) m = m
+resumed (set-scissor-rect r) m = m
+resumed (set-stencil-reference v) m = m
+resumed (set-blend-constants c) m = m
+resumed (draw vertex vertices instance instances) m = m
+resumed (draw-indexed fst count base instance instances) m = m
+resumed (draw-indirect raw offset n) m = m
+resumed (draw-indexed-indirect raw offset n) m = m
+resumed (dispatch-workgroups x y z) m = m
+resumed (dispatch-workgroups-indirect raw offset) m = m
+
+working-zero : (caps : PrivateCapabilities) (instance : ℕ) → caps .«fully_featured_instancing» ≡ true → working caps instance ≡ 0
+working-zero caps instance e = ap (λ (t : Bool). cond t 0 instance) e
+
+-- the two indirect draws
+module _ (caps : PrivateCapabilities) (D : ℕ → Bool) (s : State) (m : Machine) (b : Book) (T : Tied caps D s m b) (ph : s .progress .phase ≡ Render) (ready : b .stage ≡ first → Ready b) where
+  indirect-is : (raw offset count n k l : ℕ)
+      → Tied caps D (withProgress (record { phase = s .progress .phase; commands = n; bytes = k; queries = l }) (drawn caps 0 s))
+      (play m (prepared caps (s .vertex) 0 ++ indirectCommands (drawArgs (s .draw)) raw offset count)) (enter caps b (draw-indirect raw offset count))
+  unfolding indirectCommands
+  indirect-is raw offset count n k l = by-indirect caps D s m b T ph ready false (λ a i. DrawIndirect (a .topology) raw (offset + i * 16) (a .location)) count (λ a i x. refl) n k l
+
+  indexed-indirect-is : (raw offset count n k l : ℕ)
+      → Tied caps D (withProgress (record { phase = s .progress .phase; commands = n; bytes = k; queries = l }) (drawn caps 0 s))
+      (play m (prepared caps (s .vertex) 0 ++ indexedIndirectCommands (drawArgs (s .draw)) raw offset count)) (enter caps b (draw-indexed-indirect raw offset count))
+  unfolding indexedIndirectCommands
+  indexed-indirect-is raw offset count n k l =
+      by-indirect caps D s m b T ph ready true (λ a i. DrawIndexedIndirect (a .topology) (indexType (a .format)) raw (offset + i * 20) (a .location)) count (λ a i x. refl) n k l
+
+module _ (caps : PrivateCapabilities) (D : ℕ → Bool) (rooms : Rooms) (s : State) (m : Machine) (b : Book) (T : Tied caps D s m b) where
+  -- what an accepted call leaves
+  abbrev Kept : Call → Type 0
+  Kept c = Tied caps D (withProgress (progressAfter (meaning caps s c)) (meaning caps s c .after)) (play (resumed c m) (meaning caps s c .commands)) (enter caps b c)
+
+  still : (cs : List Command) → Idle cs → (n k l : ℕ) → Tied caps D (withProgress (record { phase = s .progress .phase; commands = n; bytes = k; queries = l }) s) (play m cs) b
+  still cs h n k l = idles caps D s m b T cs h (s .pass) (s .immediates) n k l
+
+  pub accepts : (c : Call) → accepted (outcomeOf rooms s (meaning caps s c)) ≡ true → Premise caps D b c → Kept c
+  accepts begin-encoding e P = started caps D 0 0 0
+  accepts end-encoding e P = moves caps D s m b T [] (λ x. refl) Closed (λ st f. f) (λ st. tt) (s .pass) _ _ _
+  accepts end-render-pass e P = by-end-render caps D s m b T (render-is (s .progress .phase) (in-phase rooms s (meaning caps s end-render-pass) e)) (endRenderPass (s .pass)) _ _ _
+  accepts end-compute-pass e P =
+      moves caps D s m b T (popLabel (s .pass .«has_pass_label») ++ timestamp (s .pass .«end_of_pass_timestamp»)) (idle-append (popLabel (s .pass .«has_pass_label»)) (timestamp (s .pass .«end_of_pass_timestamp»)) (idle-pop (s .pass .«has_pass_label»)) (idle-timestamp (s .pass .«end_of_pass_timestamp»))) Open (λ st f. f) (λ st. tt) (endComputePass (s .pass)) _ _ _
+  accepts (begin-render-pass d label set) e P = by-begin-render caps D s m b T d label set (s .progress .bytes) _ _ _ _
+  accepts (begin-compute-pass t label set) e P =
+      moves caps D s m b T (beginTimestamp set t ++ pushLabel label (s .progress .bytes)) (idle-append (beginTimestamp set t) (pushLabel label (s .progress .bytes)) (idle-begin set t) (idle-push label (s .progress .bytes))) Compute (λ st f. f) (λ st. tt) _ _ _ _
+  accepts (transition-buffers l) e P = still (meaning caps s (transition-buffers l) .commands) (idle-buffers caps (bufferBarriers l)) _ _ _
+  accepts (transition-textures l) e P = still (meaning caps s (transition-textures l) .commands) (idle-textures caps l) _ _ _
+  accepts (clear-buffer x range) e P = still (meaning caps s (clear-buffer x range) .commands) (λ n. refl) _ _ _
+  accepts (copy-buffer-to-buffer src dst l) e P = still (meaning caps s (copy-buffer-to-buffer src dst l) .commands) (idle-copies src dst (regionsOf l)) _ _ _
+  accepts (copy-query-results set start end dst offset) e P = still (meaning caps s (copy-query-results set start end dst offset) .commands) (λ n. refl) _ _ _
+  accepts (begin-query set i) e P = still (meaning caps s (begin-query set i) .commands) (λ n. refl) _ _ _
+  accepts (end-query set i) e P = still (meaning caps s (end-query set i) .commands) (λ n. refl) _ _ _
+  accepts (write-timestamp set i) e P = still (meaning caps s (write-timestamp set i) .commands) (λ n. refl) _ _ _
+  accepts (reset-queries set start end) e P = still (meaning caps s (reset-queries set start end) .commands) (λ n. refl) _ _ _
+  accepts (set-bind-group l i x g os) e P =
+      by-bind-group caps D s m b T (entriesOf l i x g) (counted os) (or-right (leb (l .«group_count») i) (some? entryOutOfRange (entriesOf l i x g)) (in-range rooms s (meaning caps s (set-bind-group l i x g os)) e)) _ _ _
+  accepts (set-immediates offset ws) e P = idles caps D s m b T (meaning caps s (set-immediates offset ws) .commands) (idle-immediates (descriptorsOf (s .immediates)) (s .progress .bytes)) (s .pass) (immediatesState (s .immediates) offset (counted ws)) _ _ _
+  accepts (set-render-pipeline p) e P =
+      let q = meaning caps s (set-render-pipeline p) in
+      let r = in-range rooms s q e in
+      by-render-pipeline caps D s m b T (render-is (s .progress .phase) (in-phase rooms s q e)) p (or-left (vertexOutOfRange p) (innerOutOfRange (p .inner)) r) (or-right (vertexOutOfRange p) (innerOutOfRange (p .inner)) r) (present rooms s q e) (kinds rooms s q e) P _ _ _
+  accepts (set-compute-pipeline p) e P = by-compute-pipeline caps D s m b T (compute-is (s .progress .phase) (in-phase rooms s (meaning caps s (set-compute-pipeline p)) e)) (p .inner) _ _ _
+  accepts (set-index-buffer raw offset format) e P = by-index-buffer caps D s m b T raw offset format _ _ _
+  accepts (set-vertex-buffer i raw offset) e P =
+      let q = meaning caps s (set-vertex-buffer i raw offset) in
+      by-vertex-buffer caps D s m b T (render-is (s .progress .phase) (in-phase rooms s q e)) i raw offset (leb-false 16 i (in-range rooms s q e)) _ _ _
+  accepts (set-viewport r d) e P = by-screen caps D s m b T _ _ _ _ refl (T .screen .scissor) (T .screen .blend) _ _ _
+  accepts (set-scissor-rect r) e P = by-screen caps D s m b T _ _ _ _ (T .screen .viewport) refl (T .screen .blend) _ _ _
+  accepts (set-stencil-reference v) e P = by-reference caps D s m b T v _ _ _
+  accepts (set-blend-constants c) e P = by-screen caps D s m b T _ _ _ _ (T .screen .viewport) (T .screen .scissor) refl _ _ _
+  accepts (draw vertex vertices instance instances) e P =
+      by-draw caps D s m b T (render-is (s .progress .phase) (in-phase rooms s (meaning caps s (draw vertex vertices instance instances)) e)) (working caps instance) (working-zero caps instance) P
+      false (λ a. drawCommand a vertex vertices instance instances) (λ a x. refl) _ _ _
+  accepts (draw-indexed fst count base instance instances) e P =
+      by-draw caps D s m b T (render-is (s .progress .phase) (in-phase rooms s (meaning caps s (draw-indexed fst count base instance instances)) e)) (working caps instance) (working-zero caps instance) P
+      true (λ a. drawIndexedCommand a fst count base instance instances) (λ a x. refl) _ _ _
+  accepts (draw-indirect raw offset n) e P = indirect-is caps D s m b T (render-is (s .progress .phase) (in-phase rooms s (meaning caps s (draw-indirect raw offset n)) e)) P raw offset n _ _ _
+  accepts (draw-indexed-indirect raw offset n) e P =
+      indexed-indirect-is caps D s m b T (render-is (s .progress .phase) (in-phase rooms s (meaning caps s (draw-indexed-indirect raw offset n)) e)) P raw offset n _ _ _
+  accepts (dispatch-workgroups x y z) e P = still (meaning caps s (dispatch-workgroups x y z) .commands) (idle-dispatch x y z) _ _ _
+  accepts (dispatch-workgroups-indirect raw offset) e P = still (meaning caps s (dispatch-workgroups-indirect raw offset) .commands) (λ n. refl) _ _ _

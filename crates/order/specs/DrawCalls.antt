@@ -1,0 +1,261 @@
+-- The draw calls. Assumes nothing.
+use Prim.Native.Nat.{ℕ, zero, suc, _+_, _*_, _<_}
+use mathlib.Core.Path.{_≡_, refl, sym, ap, ap₂, _∙_, subst}
+use mathlib.Core.Bool.{Bool, true, false, cond, not, _&&_, _||_}
+use mathlib.Core.List.{List, [], _∷_, _++_, map, append-assoc, append-nil}
+use mathlib.Core.Option.{Option, none, some}
+use Rattle.tables.specs.Tabulate.{tabulate}
+use Rattle.mask.specs.Mask.{testBit, places}
+use Rattle.records.specs.declared.command.AttributeDesc.{AttributeDesc}
+use Rattle.records.specs.declared.command.Command.{Command}
+use Rattle.records.specs.declared.pipeline.PrivateCapabilities.{PrivateCapabilities}
+use Rattle.records.specs.declared.pipeline.RenderPipeline.{RenderPipeline}
+use Rattle.records.specs.declared.state.Phase.{Phase}
+use Rattle.records.specs.declared.state.Phase.the-variants.{Render}
+use Rattle.records.specs.declared.state.Progress.{Progress}
+use Rattle.records.specs.declared.state.State.{State}
+use Rattle.records.specs.declared.state.VertexState.{VertexState}
+use Rattle.slots.specs.Prepare.{rebound, bufferCommand, bufferCommands, attributeCommand, attributeCommands, sent, prepared, preparedState}
+use Rattle.pipeline.specs.Vertex.{attributesIn}
+use Rattle.calls.specs.Draws.{DrawArgs}
+use Rattle.calls.specs.Parts.{withProgress, drawArgs, drawn}
+use Rattle.order.specs.Lists.{Each}
+use Rattle.order.specs.Machine.{Stage, before, first, later, Attribute, Vertices, Gl, Shot, Machine, withVertices, noted, shoot, exec, play}
+use Rattle.order.specs.Found.{viewOf}
+use Rattle.order.specs.View.{View}
+use Rattle.order.specs.Book.{Book, Entered, withDraws, entered, enterDraw, enterDraws, notedAll, names, argsOf}
+use Rattle.order.specs.Sweep.{play-append, folded, played, unfolded}
+use Rattle.order.specs.Invariant.{First, Sane, Agree, attributeBuffer, sentAttribute, Slots, Fetched, Piped, Tied}
+use Rattle.order.specs.Prepared.{bufferAct, attributeAct, slot-after, attribute-kept, attributes-after}
+use Rattle.order.specs.Drawing.{Ready, Fresh, args-are, view-is}
+use Rattle.order.specs.Keeps.{first-is, is-first, late}
+
+abbrev counted : Phase → ℕ → ℕ → ℕ → Progress
+counted ph n k l = record { phase = ph; commands = n; bytes = k; queries = l }
+
+-- ---- the logs
+pub agree-append : (ss ss′ : List Shot) (ds ds′ : List Entered) → Agree ss ds → Agree ss′ ds′ → Agree (ss ++ ss′) (ds ++ ds′)
+agree-append [] ss′ [] ds′ a a′ = a′
+agree-append [] ss′ (d ∷ ds) ds′ a a′ = absurd a
+agree-append (s ∷ ss) ss′ [] ds′ a a′ = absurd a
+agree-append (s ∷ ss) ss′ (d ∷ ds) ds′ a a′ = (a .0, agree-append ss ss′ ds ds′ (a .1) a′)
+
+one-noted : (st : Stage) (s : Shot) (d : Entered) (ss : List Shot) (ds : List Entered) → Agree ss ds → (st ≡ first → viewOf (d .pipeline) s ≡ d .view) → Agree (noted st s ss) (noted st d ds)
+one-noted before s d ss ds a h = a
+one-noted first s d ss ds a h = agree-append ss (s ∷ []) ds (d ∷ []) a (h refl, tt)
+one-noted later s d ss ds a h = a
+
+all-noted : (st : Stage) (xs : List Shot) (ys : List Entered) (ss : List Shot) (ds : List Entered) → Agree ss ds → (st ≡ first → Agree xs ys) → Agree (notedAll st xs ss) (notedAll st ys ds)
+all-noted before xs ys ss ds a h = a
+all-noted first xs ys ss ds a h = agree-append ss xs ds ys a (h refl)
+all-noted later xs ys ss ds a h = a
+
+agree-table : (n : ℕ) (f : ℕ → Shot) (g : ℕ → Entered) → ((i : ℕ) → viewOf (g i .pipeline) (f i) ≡ g i .view) → Agree (tabulate n f) (tabulate n g)
+unfolding tabulate
+agree-table zero f g h = tt
+agree-table (suc n) f g h = (h 0, agree-table n (λ i. f (suc i)) (λ i. g (suc i)) (λ i. h (suc i)))
+
+-- ---- a run of draws, on the machine
+shotAll : Bool → ℕ → (ℕ → Command) → Machine → Machine
+shotAll indexed n c m = record { stage = m .stage; gl = m .gl; shots = notedAll (m .stage) (tabulate n (λ i. record { command = c i; indexed = indexed; gl = m .gl })) (m .shots) }
+
+play-shots : (indexed : Bool) (n : ℕ) (c : ℕ → Command) → ((i : ℕ) (m : Machine) → exec m (c i) ≡ shoot indexed (c i) m) → (m : Machine) → play m (tabulate n c) ≡ shotAll indexed n c m
+unfolding tabulate shotAll
+play-shots indexed zero c h m = λ j. record { stage = m .stage; gl = m .gl; shots = none-noted (m .stage) (m .shots) j }
+  where
+    none-noted : (st : Stage) (l : List Shot) → l ≡ notedAll st [] l
+    none-noted before l = refl
+    none-noted first l = sym (append-nil l)
+    none-noted later l = refl
+play-shots indexed (suc n) c h m =
+    ap (λ (x : Machine). play x (tabulate n (λ i. c (suc i)))) (h 0 m)
+    ∙ play-shots indexed n (λ i. c (suc i)) (λ i x. h (suc i) x) (shoot indexed (c 0) m)
+    ∙ (λ j. record { stage = m .stage; gl = m .gl; shots = one-more (m .stage) (m .shots) j })
+  where
+    x : Shot
+    x = record { command = c 0; indexed = indexed; gl = m .gl }
+
+    xs : List Shot
+    xs = tabulate n (λ i. record { command = c (suc i); indexed = indexed; gl = m .gl })
+
+    one-more : (st : Stage) (l : List Shot) → notedAll st xs (noted st x l) ≡ notedAll st (x ∷ xs) l
+    one-more before l = refl
+    one-more first l = append-assoc l (x ∷ []) xs
+    one-more later l = refl
+
+-- ---- the sweep before a draw
+preparedPlayed : PrivateCapabilities → VertexState → ℕ → Vertices → Vertices
+preparedPlayed caps v w g = cond (caps .«vertex_buffer_layout») (folded (bufferAct v w) (places (rebound v w)) g) (folded (attributeAct v w) (sent v w) g)
+
+play-prepared : (caps : PrivateCapabilities) (v : VertexState) (w : ℕ) (m : Machine) → play m (prepared caps v w) ≡ withVertices (preparedPlayed caps v w (m .gl .vertices)) m
+unfolding preparedPlayed bufferCommands attributeCommands
+play-prepared caps v w m = go (caps .«vertex_buffer_layout»)
+  where
+    go : (t : Bool) → play m (cond t (map (bufferCommand v w) (places (rebound v w))) (map (attributeCommand v w) (sent v w)))
+        ≡ withVertices (cond t (folded (bufferAct v w) (places (rebound v w)) (m .gl .vertices)) (folded (attributeAct v w) (sent v w) (m .gl .vertices))) m
+    go true = played (λ (m : Machine). m .gl .vertices) withVertices (bufferCommand v w) (bufferAct v w) (λ m. refl) (λ m g h. refl) (λ m g. refl) (λ m i. refl) (places (rebound v w)) m
+    go false = played (λ (m : Machine). m .gl .vertices) withVertices (attributeCommand v w) (attributeAct v w) (λ m. refl) (λ m g h. refl) (λ m g. refl) (λ m a. refl) (sent v w) m
+
+module _ (caps : PrivateCapabilities) (D : ℕ → Bool) (s : State) (m : Machine) (b : Book) (T : Tied caps D s m b) (ph : s .progress .phase ≡ Render)
+    (w : ℕ) (zero-with : caps .«fully_featured_instancing» ≡ true → w ≡ 0) (ready : b .stage ≡ first → Ready b) where
+  abbrev v : VertexState
+  v = s .vertex
+
+  abbrev g : Vertices
+  g = m .gl .vertices
+
+  g′ : Vertices
+  g′ = preparedPlayed caps v w g
+
+  in-first : First (s .progress .phase) (b .stage) → b .stage ≡ first
+  in-first f = first-is (b .stage) (subst (λ (q : Phase). First q (b .stage)) ph f)
+
+  -- what the pipeline reads, after the sweep
+  freshly : (p : RenderPipeline) → First (s .progress .phase) (b .stage) → Piped caps D s (m .gl) (b .reference) p → Fresh caps v g′ p w
+  unfolding g′ preparedPlayed
+  freshly p f P =
+      record {
+        slots = λ layout i l d x.
+          ap (λ (t : Bool). cond t (folded (bufferAct v w) (places (rebound v w)) g) (folded (attributeAct v w) (sent v w) g) .buffer i) layout
+          ∙ slot-after caps v g p (P .fetched) D (b .buffer) (T .slots f) (P .describes) layout w zero-with i l d x;
+        attributes = λ flat.
+          subst (λ (t : Bool). Each (λ (a : AttributeDesc). testBit (v .bound) (a .«buffer_index») ≡ true → cond t (folded (bufferAct v w) (places (rebound v w)) g) (folded (attributeAct v w) (sent v w) g) .attribute (a .location) ≡ some (attributeBuffer v w a)) (attributesIn p))
+          (sym flat) (attributes-after caps v g p (P .fetched) flat w)
+      }
+
+  attributes-kept : (p : RenderPipeline) → First (s .progress .phase) (b .stage) → Piped caps D s (m .gl) (b .reference) p → caps .«vertex_buffer_layout» ≡ true → g′ .attribute ≡ g .attribute
+  unfolding g′ preparedPlayed
+  attributes-kept p f P layout =
+      ap (λ (t : Bool). cond t (folded (bufferAct v w) (places (rebound v w)) g) (folded (attributeAct v w) (sent v w) g) .attribute) layout
+      ∙ attribute-kept caps v g p (P .fetched) D (b .buffer) (T .slots f) (P .describes) layout w zero-with
+
+  refetched : (p : RenderPipeline) → First (s .progress .phase) (b .stage) → Piped caps D s (m .gl) (b .reference) p → Fetched caps (preparedState caps v w) g′ p
+  refetched p f P =
+      record {
+        ranged = P .fetched .ranged;
+        described = P .fetched .described;
+        apart = P .fetched .apart;
+        kept = P .fetched .kept;
+        instances = P .fetched .instances;
+        sent = λ layout.
+          subst (λ (x : ℕ → Option Attribute). Each (λ (a : AttributeDesc). x (a .location) ≡ some (sentAttribute p a)) (attributesIn p)) (sym (attributes-kept p f P layout)) (P .fetched .sent layout);
+        held = P .fetched .held;
+        clean = λ flat. go (attributesIn p) (freshly p f P .attributes flat)
+      }
+    where
+      go : (l : List AttributeDesc) → Each (λ (a : AttributeDesc). testBit (v .bound) (a .«buffer_index») ≡ true → g′ .attribute (a .location) ≡ some (attributeBuffer v w a)) l
+          → Each (λ (a : AttributeDesc). testBit (preparedState caps v w .«dirty_vbuf_mask») (a .«buffer_index») ≡ false → testBit (v .bound) (a .«buffer_index») ≡ true → g′ .attribute (a .location) ≡ some (attributeBuffer v w a)) l
+      go [] h = tt
+      go (a ∷ l) h = ((λ e x. h .0 x), go l (h .1))
+
+  swept : (n k l : ℕ) → Tied caps D (withProgress (counted (s .progress .phase) n k l) (drawn caps w s)) (withVertices g′ m) b
+  swept n k l =
+      record {
+        stage = T .stage;
+        sane = T .sane;
+        log = T .log;
+        screen = T .screen;
+        res = T .res;
+        args = T .args;
+        units = T .units;
+        lazy = T .lazy;
+        early = λ e. absurd (late (b .stage) (subst (λ (p : Phase). Sane p (b .stage)) ph (T .sane)) e);
+        slots = λ f.
+          let R = ready (in-first f) in
+          let P = T .piped f (R .pipeline) (R .is) in
+          record {
+            long = T .slots f .long;
+            bound = T .slots f .bound;
+            still = λ full. zero-with full;
+            only = T .slots f .only;
+            clean = λ layout i l e d x. freshly (R .pipeline) f P .slots layout i l d x
+          };
+        piped = λ f p e.
+          let P = T .piped f p e in
+          record {
+            drawn = P .drawn;
+            set = P .set;
+            stenciled = P .stenciled;
+            numbered = P .numbered;
+            fetched = refetched p f P;
+            describes = P .describes
+          }
+      }
+
+  -- the view of a draw whose command is made of the state's arguments
+  viewed : (indexed : Bool) (c : DrawArgs → Command) → b .stage ≡ first → viewOf (b .pipeline) (record { command = c (drawArgs (s .draw)); indexed = indexed; gl = withVertices g′ m .gl }) ≡ names b w indexed (c (argsOf b))
+  viewed indexed c st =
+      let R = ready st in
+      let f : First (s .progress .phase) (b .stage) = subst (λ (q : Phase). First q (b .stage)) (sym ph) (is-first (b .stage) st) in
+      let P = T .piped f (R .pipeline) (R .is) in
+      let T′ = swept 0 0 0 in
+      view-is caps D (drawn caps w s) (withVertices g′ m .gl) b R w indexed (c (drawArgs (s .draw))) (T′ .screen) (T′ .res) (T′ .units) (T′ .slots f) (repiped (T′ .piped f (R .pipeline) (R .is))) (fresh′ (freshly (R .pipeline) f P))
+      ∙ ap (λ (a : DrawArgs). names b w indexed (c a)) (args-are s b (R .pipeline) (R .is) (T .args) (P .drawn))
+    where
+      repiped : {p : RenderPipeline} → Piped caps D (withProgress (counted (s .progress .phase) 0 0 0) (drawn caps w s)) (withVertices g′ m .gl) (b .reference) p → Piped caps D (drawn caps w s) (withVertices g′ m .gl) (b .reference) p
+      repiped P = record { drawn = P .drawn; set = P .set; stenciled = P .stenciled; numbered = P .numbered; fetched = P .fetched; describes = P .describes }
+
+      fresh′ : {p : RenderPipeline} → Fresh caps v g′ p w → Fresh caps (preparedState caps v w) g′ p w
+      fresh′ F = record { slots = F .slots; attributes = F .attributes }
+
+  -- ---- one draw
+  pub by-draw : (indexed : Bool) (c : DrawArgs → Command) → ((a : DrawArgs) (x : Machine) → exec x (c a) ≡ shoot indexed (c a) x) → (n k l : ℕ)
+      → Tied caps D (withProgress (counted (s .progress .phase) n k l) (drawn caps w s)) (play m (prepared caps v w ++ (c (drawArgs (s .draw)) ∷ []))) (enterDraw w indexed (c (argsOf b)) b)
+  unfolding g′
+  by-draw indexed c shoots n k l =
+      subst (λ (x : Machine). Tied caps D (withProgress (counted (s .progress .phase) n k l) (drawn caps w s)) x (enterDraw w indexed (c (argsOf b)) b))
+      (sym (play-append m (prepared caps v w) (c (drawArgs (s .draw)) ∷ []) ∙ ap (λ (x : Machine). exec x (c (drawArgs (s .draw)))) (play-prepared′ m) ∙ shoots (drawArgs (s .draw)) (withVertices g′ m)))
+      (let T′ = swept n k l in
+      record {
+        stage = T′ .stage;
+        sane = T′ .sane;
+        log =
+          subst (λ (st : Stage). Agree (noted st (record { command = c (drawArgs (s .draw)); indexed = indexed; gl = withVertices g′ m .gl }) (m .shots)) (enterDraw w indexed (c (argsOf b)) b .draws)) (sym (T .stage))
+          (one-noted (b .stage) (record { command = c (drawArgs (s .draw)); indexed = indexed; gl = withVertices g′ m .gl }) (entered b (names b w indexed (c (argsOf b)))) (m .shots) (b .draws) (T .log) (viewed indexed c));
+        screen = record { viewport = T .screen .viewport; scissor = T .screen .scissor; blend = T .screen .blend };
+        res = T′ .res;
+        args = record { format = T .args .format; offset = T .args .offset };
+        units = T′ .units;
+        lazy = T′ .lazy;
+        early = T′ .early;
+        slots = T′ .slots;
+        piped = T′ .piped
+      })
+    where
+      play-prepared′ : (x : Machine) → play x (prepared caps v w) ≡ withVertices (preparedPlayed caps v w (x .gl .vertices)) x
+      play-prepared′ x = play-prepared caps v w x
+
+-- ---- indirect draws: working instance 0
+module _ (caps : PrivateCapabilities) (D : ℕ → Bool) (s : State) (m : Machine) (b : Book) (T : Tied caps D s m b) (ph : s .progress .phase ≡ Render) (ready : b .stage ≡ first → Ready b) where
+  pub by-indirect : (indexed : Bool) (c : DrawArgs → ℕ → Command) (count : ℕ) → ((a : DrawArgs) (i : ℕ) (x : Machine) → exec x (c a i) ≡ shoot indexed (c a i) x) → (n k l : ℕ)
+      → Tied caps D (withProgress (counted (s .progress .phase) n k l) (drawn caps 0 s)) (play m (prepared caps (s .vertex) 0 ++ tabulate count (c (drawArgs (s .draw))))) (enterDraws indexed (c (argsOf b)) count b)
+  unfolding shotAll g′
+  by-indirect indexed c count shoots n k l =
+      subst (λ (x : Machine). Tied caps D (withProgress (counted (s .progress .phase) n k l) (drawn caps 0 s)) x (enterDraws indexed (c (argsOf b)) count b))
+      (sym
+      (play-append m (prepared caps (s .vertex) 0) (tabulate count (c (drawArgs (s .draw))))
+      ∙ ap (λ (x : Machine). play x (tabulate count (c (drawArgs (s .draw))))) (play-prepared caps (s .vertex) 0 m)
+      ∙ play-shots indexed count (c (drawArgs (s .draw))) (shoots (drawArgs (s .draw))) (withVertices (preparedPlayed caps (s .vertex) 0 (m .gl .vertices)) m)))
+      (let T′ = swept caps D s m b T ph 0 (λ f. refl) ready n k l in
+      record {
+        stage = T′ .stage;
+        sane = T′ .sane;
+        log =
+          subst (λ (st : Stage). Agree (notedAll st (tabulate count shot) (m .shots)) (enterDraws indexed (c (argsOf b)) count b .draws)) (sym (T .stage))
+          (all-noted (b .stage) (tabulate count shot) (tabulate count entry) (m .shots) (b .draws) (T .log)
+          (λ st. agree-table count shot entry (λ i. viewed caps D s m b T ph 0 (λ f. refl) ready indexed (λ a. c a i) st)));
+        screen = record { viewport = T .screen .viewport; scissor = T .screen .scissor; blend = T .screen .blend };
+        res = T′ .res;
+        args = record { format = T .args .format; offset = T .args .offset };
+        units = T′ .units;
+        lazy = T′ .lazy;
+        early = T′ .early;
+        slots = T′ .slots;
+        piped = T′ .piped
+      })
+    where
+      shot : ℕ → Shot
+      shot i = record { command = c (drawArgs (s .draw)) i; indexed = indexed; gl = withVertices (preparedPlayed caps (s .vertex) 0 (m .gl .vertices)) m .gl }
+
+      entry : ℕ → Entered
+      entry i = entered b (names b 0 indexed (c (argsOf b) i))
