@@ -63,14 +63,14 @@ begun r m =
     record {
       stage = onward (m .stage);
       gl =
-        record {
-          vertices = m .gl .vertices;
-          bindings = m .gl .bindings;
-          screen = record { viewport = some (record { rect = r; depth = fullDepth }); scissor = some r; blend = m .gl .screen .blend };
-          fixed = m .gl .fixed;
-          faces = m .gl .faces
-        };
-      shots = m .shots
+          record {
+            vertices = m .gl .vertices;
+            bindings = m .gl .bindings;
+            screen = record { viewport = some (record { rect = r; depth = fullDepth }); scissor = some r; blend = m .gl .screen .blend };
+            fixed = m .gl .fixed;
+            faces = m .gl .faces;
+          };
+      shots = m .shots;
     }
 
 play-begin : (caps : PrivateCapabilities) (d : RenderPassDescriptor) (label : Label) (set : Lent) (at : ℕ) (m : Machine) → play m (beginRenderCommands caps d label set at) ≡ begun (extentRect (d .extent)) m
@@ -146,7 +146,7 @@ module _ (caps : PrivateCapabilities) (D : ℕ → Bool) (s : State) (m : Machin
         lazy = T .lazy;
         early = λ e. absurd (not-early (b .stage) e);
         slots = λ f. let E = T .early (begins (b .stage) f) in slots-start caps D (s .vertex) (m .gl .vertices) (b .buffer) (E .vertex) (E .empty);
-        piped = λ f p e. none-some (sym (T .early (begins (b .stage) f) .unset) ∙ e)
+        piped = λ f p e. none-some (sym (T .early (begins (b .stage) f) .unset) ∙ e);
       })
 
   pub by-end-render : s .progress .phase ≡ Render → (pass : PassState) (n k l : ℕ)
@@ -164,7 +164,7 @@ module _ (caps : PrivateCapabilities) (D : ℕ → Bool) (s : State) (m : Machin
         lazy = record { bias = T .lazy .bias; alpha = T .lazy .alpha; clip = T .lazy .clip; targets = nothing (m .gl .fixed .target); primitive = λ ne. absurd (ne refl) };
         early = λ e. absurd (late (b .stage) (subst (λ (p : Phase). Sane p (b .stage)) ph (T .sane)) e);
         slots = λ f. absurd f;
-        piped = λ f. absurd f
+        piped = λ f. absurd f;
       })
 
   -- ---- bind groups
@@ -185,15 +185,15 @@ module _ (caps : PrivateCapabilities) (D : ℕ → Bool) (s : State) (m : Machin
         early = T .early;
         slots = T .slots;
         piped = λ f p e.
-          let P = T .piped f p e in
-          record {
-            drawn = P .drawn;
-            set = P .set;
-            stenciled = P .stenciled;
-            numbered = record { number = λ u h. R .numbers u ∙ P .numbered .number u h; low = P .numbered .low };
-            fetched = P .fetched;
-            describes = P .describes
-          }
+            let P = T .piped f p e in
+            record {
+              drawn = P .drawn;
+              set = P .set;
+              stenciled = P .stenciled;
+              numbered = record { number = λ u h. R .numbers u ∙ P .numbered .number u h; low = P .numbered .low };
+              fetched = P .fetched;
+              describes = P .describes;
+            };
       })
     where
       mask : ℕ
@@ -220,7 +220,7 @@ module _ (caps : PrivateCapabilities) (D : ℕ → Bool) (s : State) (m : Machin
         lazy = record { bias = T .lazy .bias; alpha = T .lazy .alpha; clip = T .lazy .clip; targets = T .lazy .targets; primitive = T .lazy .primitive };
         early = T .early;
         slots = λ f. absurd (subst (λ (q : Phase). First q (b .stage)) ph f);
-        piped = λ f. absurd (subst (λ (q : Phase). First q (b .stage)) ph f)
+        piped = λ f. absurd (subst (λ (q : Phase). First q (b .stage)) ph f);
       })
 
   -- ---- settings
@@ -239,15 +239,15 @@ module _ (caps : PrivateCapabilities) (D : ℕ → Bool) (s : State) (m : Machin
         early = T .early;
         slots = T .slots;
         piped = λ f p e.
-          let P = T .piped f p e in
-          record {
-            drawn = record { topology = P .drawn .topology; location = P .drawn .location };
-            set = P .set;
-            stenciled = P .stenciled;
-            numbered = P .numbered;
-            fetched = P .fetched;
-            describes = P .describes
-          }
+            let P = T .piped f p e in
+            record {
+              drawn = record { topology = P .drawn .topology; location = P .drawn .location };
+              set = P .set;
+              stenciled = P .stenciled;
+              numbered = P .numbered;
+              fetched = P .fetched;
+              describes = P .describes;
+            };
       }
 
   -- viewport, scissor or blend constants: the machine's screen becomes the book's
@@ -266,8 +266,8 @@ module _ (caps : PrivateCapabilities) (D : ℕ → Bool) (s : State) (m : Machin
         early = T .early;
         slots = T .slots;
         piped = λ f p e.
-          let P = T .piped f p e in
-          record { drawn = P .drawn; set = P .set; stenciled = P .stenciled; numbered = P .numbered; fetched = P .fetched; describes = P .describes }
+            let P = T .piped f p e in
+            record { drawn = P .drawn; set = P .set; stenciled = P .stenciled; numbered = P .numbered; fetched = P .fetched; describes = P .describes };
       }
 
   -- the reference of both sides
@@ -289,8 +289,8 @@ module _ (caps : PrivateCapabilities) (D : ℕ → Bool) (s : State) (m : Machin
         early = T .early;
         slots = T .slots;
         piped = λ f p e.
-          let P = T .piped f p e in
-          record { drawn = P .drawn; set = P .set; stenciled = restenciled p (P .stenciled); numbered = P .numbered; fetched = P .fetched; describes = P .describes }
+            let P = T .piped f p e in
+            record { drawn = P .drawn; set = P .set; stenciled = restenciled p (P .stenciled); numbered = P .numbered; fetched = P .fetched; describes = P .describes };
       })
     where
       restenciled : (p : RenderPipeline) → Stenciled (s .fixed .stencil) (m .gl .faces) (b .reference) p

@@ -116,11 +116,11 @@ module _ (caps : PrivateCapabilities) (D : ℕ → Bool) (s : State) (m : Machin
   freshly p f P =
       record {
         slots = λ layout i l d x.
-          ap (λ (t : Bool). cond t (folded (bufferAct v w) (places (rebound v w)) g) (folded (attributeAct v w) (sent v w) g) .buffer i) layout
-          ∙ slot-after caps v g p (P .fetched) D (b .buffer) (T .slots f) (P .describes) layout w zero-with i l d x;
+            ap (λ (t : Bool). cond t (folded (bufferAct v w) (places (rebound v w)) g) (folded (attributeAct v w) (sent v w) g) .buffer i) layout
+            ∙ slot-after caps v g p (P .fetched) D (b .buffer) (T .slots f) (P .describes) layout w zero-with i l d x;
         attributes = λ flat.
-          subst (λ (t : Bool). Each (λ (a : AttributeDesc). testBit (v .bound) (a .«buffer_index») ≡ true → cond t (folded (bufferAct v w) (places (rebound v w)) g) (folded (attributeAct v w) (sent v w) g) .attribute (a .location) ≡ some (attributeBuffer v w a)) (attributesIn p))
-          (sym flat) (attributes-after caps v g p (P .fetched) flat w)
+            subst (λ (t : Bool). Each (λ (a : AttributeDesc). testBit (v .bound) (a .«buffer_index») ≡ true → cond t (folded (bufferAct v w) (places (rebound v w)) g) (folded (attributeAct v w) (sent v w) g) .attribute (a .location) ≡ some (attributeBuffer v w a)) (attributesIn p))
+            (sym flat) (attributes-after caps v g p (P .fetched) flat w);
       }
 
   attributes-kept : (p : RenderPipeline) → First (s .progress .phase) (b .stage) → Piped caps D s (m .gl) (b .reference) p → caps .«vertex_buffer_layout» ≡ true → g′ .attribute ≡ g .attribute
@@ -138,9 +138,9 @@ module _ (caps : PrivateCapabilities) (D : ℕ → Bool) (s : State) (m : Machin
         kept = P .fetched .kept;
         instances = P .fetched .instances;
         sent = λ layout.
-          subst (λ (x : ℕ → Option Attribute). Each (λ (a : AttributeDesc). x (a .location) ≡ some (sentAttribute p a)) (attributesIn p)) (sym (attributes-kept p f P layout)) (P .fetched .sent layout);
+            subst (λ (x : ℕ → Option Attribute). Each (λ (a : AttributeDesc). x (a .location) ≡ some (sentAttribute p a)) (attributesIn p)) (sym (attributes-kept p f P layout)) (P .fetched .sent layout);
         held = P .fetched .held;
-        clean = λ flat. go (attributesIn p) (freshly p f P .attributes flat)
+        clean = λ flat. go (attributesIn p) (freshly p f P .attributes flat);
       }
     where
       go : (l : List AttributeDesc) → Each (λ (a : AttributeDesc). testBit (v .bound) (a .«buffer_index») ≡ true → g′ .attribute (a .location) ≡ some (attributeBuffer v w a)) l
@@ -161,25 +161,25 @@ module _ (caps : PrivateCapabilities) (D : ℕ → Bool) (s : State) (m : Machin
         lazy = T .lazy;
         early = λ e. absurd (late (b .stage) (subst (λ (p : Phase). Sane p (b .stage)) ph (T .sane)) e);
         slots = λ f.
-          let R = ready (in-first f) in
-          let P = T .piped f (R .pipeline) (R .is) in
-          record {
-            long = T .slots f .long;
-            bound = T .slots f .bound;
-            still = λ full. zero-with full;
-            only = T .slots f .only;
-            clean = λ layout i l e d x. freshly (R .pipeline) f P .slots layout i l d x
-          };
+            let R = ready (in-first f) in
+            let P = T .piped f (R .pipeline) (R .is) in
+            record {
+              long = T .slots f .long;
+              bound = T .slots f .bound;
+              still = λ full. zero-with full;
+              only = T .slots f .only;
+              clean = λ layout i l e d x. freshly (R .pipeline) f P .slots layout i l d x;
+            };
         piped = λ f p e.
-          let P = T .piped f p e in
-          record {
-            drawn = P .drawn;
-            set = P .set;
-            stenciled = P .stenciled;
-            numbered = P .numbered;
-            fetched = refetched p f P;
-            describes = P .describes
-          }
+            let P = T .piped f p e in
+            record {
+              drawn = P .drawn;
+              set = P .set;
+              stenciled = P .stenciled;
+              numbered = P .numbered;
+              fetched = refetched p f P;
+              describes = P .describes;
+            };
       }
 
   -- the view of a draw whose command is made of the state's arguments
@@ -210,8 +210,8 @@ module _ (caps : PrivateCapabilities) (D : ℕ → Bool) (s : State) (m : Machin
         stage = T′ .stage;
         sane = T′ .sane;
         log =
-          subst (λ (st : Stage). Agree (noted st (record { command = c (drawArgs (s .draw)); indexed = indexed; gl = withVertices g′ m .gl }) (m .shots)) (enterDraw w indexed (c (argsOf b)) b .draws)) (sym (T .stage))
-          (one-noted (b .stage) (record { command = c (drawArgs (s .draw)); indexed = indexed; gl = withVertices g′ m .gl }) (entered b (names b w indexed (c (argsOf b)))) (m .shots) (b .draws) (T .log) (viewed indexed c));
+            subst (λ (st : Stage). Agree (noted st (record { command = c (drawArgs (s .draw)); indexed = indexed; gl = withVertices g′ m .gl }) (m .shots)) (enterDraw w indexed (c (argsOf b)) b .draws)) (sym (T .stage))
+            (one-noted (b .stage) (record { command = c (drawArgs (s .draw)); indexed = indexed; gl = withVertices g′ m .gl }) (entered b (names b w indexed (c (argsOf b)))) (m .shots) (b .draws) (T .log) (viewed indexed c));
         screen = record { viewport = T .screen .viewport; scissor = T .screen .scissor; blend = T .screen .blend };
         res = T′ .res;
         args = record { format = T .args .format; offset = T .args .offset };
@@ -219,7 +219,7 @@ module _ (caps : PrivateCapabilities) (D : ℕ → Bool) (s : State) (m : Machin
         lazy = T′ .lazy;
         early = T′ .early;
         slots = T′ .slots;
-        piped = T′ .piped
+        piped = T′ .piped;
       })
     where
       play-prepared′ : (x : Machine) → play x (prepared caps v w) ≡ withVertices (preparedPlayed caps v w (x .gl .vertices)) x
@@ -241,9 +241,9 @@ module _ (caps : PrivateCapabilities) (D : ℕ → Bool) (s : State) (m : Machin
         stage = T′ .stage;
         sane = T′ .sane;
         log =
-          subst (λ (st : Stage). Agree (notedAll st (tabulate count shot) (m .shots)) (enterDraws indexed (c (argsOf b)) count b .draws)) (sym (T .stage))
-          (all-noted (b .stage) (tabulate count shot) (tabulate count entry) (m .shots) (b .draws) (T .log)
-          (λ st. agree-table count shot entry (λ i. viewed caps D s m b T ph 0 (λ f. refl) ready indexed (λ a. c a i) st)));
+            subst (λ (st : Stage). Agree (notedAll st (tabulate count shot) (m .shots)) (enterDraws indexed (c (argsOf b)) count b .draws)) (sym (T .stage))
+            (all-noted (b .stage) (tabulate count shot) (tabulate count entry) (m .shots) (b .draws) (T .log)
+            (λ st. agree-table count shot entry (λ i. viewed caps D s m b T ph 0 (λ f. refl) ready indexed (λ a. c a i) st)));
         screen = record { viewport = T .screen .viewport; scissor = T .screen .scissor; blend = T .screen .blend };
         res = T′ .res;
         args = record { format = T .args .format; offset = T .args .offset };
@@ -251,7 +251,7 @@ module _ (caps : PrivateCapabilities) (D : ℕ → Bool) (s : State) (m : Machin
         lazy = T′ .lazy;
         early = T′ .early;
         slots = T′ .slots;
-        piped = T′ .piped
+        piped = T′ .piped;
       })
     where
       shot : ℕ → Shot

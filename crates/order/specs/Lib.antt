@@ -18,3 +18,6 @@ pub mod Calls
 pub mod VertexCalls
 pub mod DrawCalls
 pub mod Accept
+pub mod Run
+pub mod Induction
+pub mod Theorem

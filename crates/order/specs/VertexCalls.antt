@@ -110,10 +110,10 @@ module _ (v : VertexState) (i raw offset : ℕ) (low : i < 16) (long : length (v
         still = S .still;
         only = S .only;
         clean = λ layout j l e d b.
-          let o = other j e in
-          let x = slot-same j (o .1) in
-          S .clean layout j l (o .0) d (sym (bound-same j (o .1)) ∙ b)
-          ∙ sym (λ k. some (record { binding = record { raw = x k .raw; offset = x k .offset + instanceOffset (stepOf (testBit (v .«by_instance») j)) (v .«active_first_instance») (x k .stride) }; desc = record { step = stepOf (testBit (v .«by_instance») j); stride = x k .stride } }))
+            let o = other j e in
+            let x = slot-same j (o .1) in
+            S .clean layout j l (o .0) d (sym (bound-same j (o .1)) ∙ b)
+            ∙ sym (λ k. some (record { binding = record { raw = x k .raw; offset = x k .offset + instanceOffset (stepOf (testBit (v .«by_instance») j)) (v .«active_first_instance») (x k .stride) }; desc = record { step = stepOf (testBit (v .«by_instance») j); stride = x k .stride } }));
       }
 
   pub fetched-bound : (caps : PrivateCapabilities) (g : Vertices) (p : RenderPipeline) → Fetched caps v g p → Fetched caps v′ g p
@@ -126,33 +126,34 @@ module _ (v : VertexState) (i raw offset : ℕ) (low : i < 16) (long : length (v
         instances = F .instances;
         sent = F .sent;
         held = F .held;
-        clean = λ flat. go (attributesIn p) (F .clean flat)
+        clean = λ flat. go (attributesIn p) (F .clean flat);
       }
     where
       go : (l : List AttributeDesc)
           → Each (λ (a : AttributeDesc). testBit (v .«dirty_vbuf_mask») (a .«buffer_index») ≡ false → testBit (v .bound) (a .«buffer_index») ≡ true → g .attribute (a .location) ≡ some (attributeBuffer v (v .«active_first_instance») a)) l
           → Each (λ (a : AttributeDesc). testBit (v′ .«dirty_vbuf_mask») (a .«buffer_index») ≡ false → testBit (v′ .bound) (a .«buffer_index») ≡ true → g .attribute (a .location) ≡ some (attributeBuffer v′ (v .«active_first_instance») a)) l
       go [] h = tt
-      go (a ∷ l) h =
-          ((λ e b.
+      go (a ∷ l) h = (
+        (λ e b.
             let o = other (a .«buffer_index») e in
             let x = slot-same (a .«buffer_index») (o .1) in
             h .0 (o .0) (sym (bound-same (a .«buffer_index») (o .1)) ∙ b)
             ∙ sym
             (λ k.
-              some
-              (record {
-                buffer = Some (x k .raw);
-                desc = record { step = stepOf (testBit (v .«by_instance») (a .«buffer_index»)); stride = x k .stride };
-                attribute =
+            some
+            (record {
+              buffer = Some (x k .raw);
+              desc = record { step = stepOf (testBit (v .«by_instance») (a .«buffer_index»)); stride = x k .stride };
+              attribute =
                   record {
                     location = a .location;
                     offset = a .offset + x k .offset + instanceOffset (stepOf (testBit (v .«by_instance») (a .«buffer_index»))) (v .«active_first_instance») (x k .stride);
                     «buffer_index» = a .«buffer_index»;
-                    «format_desc» = a .«format_desc»
-                  }
-              }))),
-          go l (h .1))
+                    «format_desc» = a .«format_desc»;
+                  };
+            }))),
+        go l (h .1),
+      )
 
 -- ---- the commands of a pipeline's vertex part, on the machine
 unsetAct : AttributeDesc → Vertices → Vertices
@@ -224,15 +225,15 @@ module _ (caps : PrivateCapabilities) (D : ℕ → Bool) (s : State) (m : Machin
         early = λ e. absurd (not-before e);
         slots = λ f. slots-bound (s .vertex) i raw offset low (T .slots f .long) caps D (m .gl .vertices) (b .buffer) (T .slots f);
         piped = λ f p e.
-          let P = T .piped f p e in
-          record {
-            drawn = P .drawn;
-            set = P .set;
-            stenciled = P .stenciled;
-            numbered = P .numbered;
-            fetched = fetched-bound (s .vertex) i raw offset low (T .slots f .long) caps (m .gl .vertices) p (P .fetched);
-            describes = P .describes
-          }
+            let P = T .piped f p e in
+            record {
+              drawn = P .drawn;
+              set = P .set;
+              stenciled = P .stenciled;
+              numbered = P .numbered;
+              fetched = fetched-bound (s .vertex) i raw offset low (T .slots f .long) caps (m .gl .vertices) p (P .fetched);
+              describes = P .describes;
+            };
       }
 
   pub by-render-pipeline : (p : RenderPipeline) → vertexOutOfRange p ≡ false → innerOutOfRange (p .inner) ≡ false → vertexAbsent p ≡ false → vertexTwice p ≡ false → (b .stage ≡ first → DescribesOn caps D p) → (n k l : ℕ)
@@ -263,7 +264,7 @@ module _ (caps : PrivateCapabilities) (D : ℕ → Bool) (s : State) (m : Machin
         lazy = lazy-piped p (s .fixed) (putProgram (p .inner .program) (m .gl .fixed)) L;
         early = λ e. absurd (not-before e);
         slots = λ f. slots-piped caps p (s .vertex) D (m .gl .vertices) (vertexPlayed caps p (s .vertex) (m .gl .vertices)) (b .buffer) (T .slots f) (describes (in-first f)) (λ layout. vertex-buffers caps p (s .vertex) (m .gl .vertices));
-        piped = λ f q e. subst (λ (x : RenderPipeline). Piped caps D s′ (piped-machine caps p s m .gl) (referenceOf (p .stencil)) x) (some-same p q e) (new f)
+        piped = λ f q e. subst (λ (x : RenderPipeline). Piped caps D s′ (piped-machine caps p s m .gl) (referenceOf (p .stencil)) x) (some-same p q e) (new f);
       })
     where
       s′ : State
@@ -299,5 +300,5 @@ module _ (caps : PrivateCapabilities) (D : ℕ → Bool) (s : State) (m : Machin
             stenciled = stencil-piped p (s .fixed) (m .gl .faces);
             numbered = record { number = λ u h. number-after (p .inner) (s .bind) u h; low = inner };
             fetched = fetched-piped caps p (s .vertex) range absent twice (m .gl .vertices) (vertexPlayed caps p (s .vertex) (m .gl .vertices)) (vertex-sent caps p (s .vertex) (m .gl .vertices));
-            describes = describes (in-first f)
+            describes = describes (in-first f);
           }
