@@ -5,3 +5,4 @@ pub mod Draws
 pub mod Parts
 pub mod Meaning
 pub mod Step
+pub mod Did

@@ -2,7 +2,7 @@
 use mathlib.Core.Path.{_≡_, refl, sym, ap, _∙_}
 use mathlib.Core.Bool.{Bool, true, false, cond, not, _&&_, _||_}
 use Rattle.records.specs.Outcome.{accepted, either, smallest}
-use Rattle.records.specs.Check.{outOfRange, stateConditions}
+use Rattle.records.specs.Check.{outOfRange, overRoom, stateConditions}
 use Rattle.records.specs.declared.check.Rooms.{Rooms}
 use Rattle.records.specs.declared.outcome.Outcome.{Outcome}
 use Rattle.records.specs.declared.outcome.Outcome.the-variants.{Done, WrongPhase, TooMany, OutOfRange, Absent, WrongKind, Overflow, NoRoom}
@@ -11,7 +11,7 @@ use Rattle.records.specs.declared.pipeline.PrivateCapabilities.{PrivateCapabili
 use Rattle.records.specs.declared.state.State.{State}
 use Rattle.calls.specs.Call.{Call}
 use Rattle.calls.specs.Meaning.{Meaning}
-use Rattle.calls.specs.Step.{meaning, callConditions, outcomeOf}
+use Rattle.calls.specs.Step.{meaning, progressAfter, callConditions, outcomeOf}
 use Rattle.order.specs.Lists.{false-true, or-left, or-right, not-false}
 
 pub record Passes (c : Conditions) : Type 0 where
@@ -57,3 +57,9 @@ module _ (rooms : Rooms) (s : State) (m : Meaning) (e : accepted (outcomeOf room
 
   pub kinds : m .asks .kind ≡ false
   kinds = or-right (stateConditions s (m .handed rooms) .kind) (m .asks .kind) (all .kind)
+
+  pub in-room : overRoom (progressAfter m) (m .handed rooms) ≡ false
+  in-room = or-right (m .asks .room) (overRoom (progressAfter m) (m .handed rooms)) (or-right (overRoom (s .progress) (m .handed rooms)) (m .asks .room || overRoom (progressAfter m) (m .handed rooms)) (all .room))
+
+  pub was-in-room : overRoom (s .progress) (m .handed rooms) ≡ false
+  was-in-room = or-left (overRoom (s .progress) (m .handed rooms)) (m .asks .room || overRoom (progressAfter m) (m .handed rooms)) (all .room)

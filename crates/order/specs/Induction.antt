@@ -7,10 +7,12 @@ use mathlib.Core.Logic.{_⊎_, inl, inr}
 use native.Mathlib.Omega.{arith}
 use lib.ListN.{length, take, length-append, length-take}
 use lib.Seq.{take-length}
+use Rattle.records.specs.Start.{startProgress}
 use Rattle.records.specs.Outcome.{accepted}
 use Rattle.records.specs.declared.check.Rooms.{Rooms}
 use Rattle.records.specs.declared.command.Command.{Command}
 use Rattle.records.specs.declared.pipeline.PrivateCapabilities.{PrivateCapabilities}
+use Rattle.records.specs.declared.state.Progress.{Progress}
 use Rattle.records.specs.declared.state.State.{State}
 use Rattle.calls.specs.Call.{Call, begin-encoding, end-encoding, begin-render-pass, end-render-pass, begin-compute-pass, end-compute-pass, transition-buffers, transition-textures, clear-buffer, copy-buffer-to-buffer, copy-query-results, begin-query, end-query, write-timestamp, reset-queries, set-bind-group, set-immediates, set-render-pipeline, set-compute-pipeline, set-index-buffer, set-vertex-buffer, set-viewport, set-scissor-rect, set-stencil-reference, set-blend-constants, draw, draw-indexed, draw-indirect, draw-indexed-indirect, dispatch-workgroups, dispatch-workgroups-indirect}
 use Rattle.calls.specs.Parts.{withProgress}
@@ -27,10 +29,11 @@ use Rattle.order.specs.Accept.{Premise, resumed, accepts}
 use Rattle.order.specs.Run.{carried, Recording, record-call, record-calls, fed, Premises, begun}
 
 -- a call goes on with the list, or starts a new one
-abbrev Goes : PrivateCapabilities → State → Call → Type 0
-Goes caps s c = ((meaning caps s c .after .progress .commands ≡ s .progress .commands) × ((m : Machine) → resumed c m ≡ m)) ⊎ ((meaning caps s c .after .progress .commands ≡ 0) × ((m : Machine) → resumed c m ≡ fresh))
+abbrev pub Goes : PrivateCapabilities → State → Call → Type 0
+Goes caps s c =
+    ((meaning caps s c .after .progress ≡ s .progress) × ((m : Machine) → resumed c m ≡ m)) ⊎ ((meaning caps s c .after .progress ≡ startProgress) × ((m : Machine) → resumed c m ≡ fresh))
 
-goes : (caps : PrivateCapabilities) (s : State) (c : Call) → Goes caps s c
+pub goes : (caps : PrivateCapabilities) (s : State) (c : Call) → Goes caps s c
 goes caps s begin-encoding = inr (refl, λ m. refl)
 goes caps s end-encoding = inl (refl, λ m. refl)
 goes caps s end-render-pass = inl (refl, λ m. refl)
@@ -72,10 +75,12 @@ kept-list caps s c l e = go (goes caps s c)
     whole n q = ap (λ (k : ℕ). take k l) q ∙ take-length l
 
     go : Goes caps s c → (play fresh (take (meaning caps s c .after .progress .commands) l) ≡ resumed c (play fresh l)) × (length (take (meaning caps s c .after .progress .commands) l) ≡ meaning caps s c .after .progress .commands)
-    go (inl (q, h)) =
+    go (inl (p, h)) =
+        let q = ap (λ (x : Progress). x .commands) p in
         let w = whole (meaning caps s c .after .progress .commands) (q ∙ sym e) in
         (ap (play fresh) w ∙ sym (h (play fresh l)), ap length w ∙ e ∙ sym q)
-    go (inr (q, h)) =
+    go (inr (p, h)) =
+        let q = ap (λ (x : Progress). x .commands) p in
         (ap (λ (k : ℕ). play fresh (take k l)) q ∙ sym (h (play fresh l)), ap (λ (k : ℕ). length (take k l)) q ∙ sym q)
 
 -- ---- one call

@@ -21,3 +21,4 @@ pub mod Accept
 pub mod Run
 pub mod Induction
 pub mod Theorem
+pub mod Ran

@@ -1,0 +1,44 @@
+-- What a call's contract says: its answer, and every lent run after it, used part and rest. Definitions only.
+use Prim.Native.Nat.{ℕ, _+_}
+use mathlib.Core.Path.{_≡_}
+use mathlib.Core.List.{List, _++_, map}
+use lib.ListN.{length, take, drop}
+use Rattle.records.specs.declared.check.Rooms.{Rooms}
+use Rattle.records.specs.declared.command.Command.{Command}
+use Rattle.records.specs.declared.command.Record.{Record}
+use Rattle.records.specs.declared.pipeline.PrivateCapabilities.{PrivateCapabilities}
+use Rattle.records.specs.declared.state.Answer.{Answer}
+use Rattle.records.specs.declared.state.State.{State}
+use Rattle.calls.specs.Call.{Call}
+use Rattle.calls.specs.Step.{Step, step}
+
+-- the three lent runs: commands, marker bytes, queries
+pub record Runs : Type 0 where
+  pub commands : List Record
+  pub bytes : List ℕ
+  pub queries : List ℕ
+
+abbrev pub roomsOf : Runs → Rooms
+roomsOf r = record { commands = length (r .commands); bytes = length (r .bytes); queries = length (r .queries) }
+
+-- the run with xs from the place at on; the rest of it as it was
+abbrev pub written : {A : Type 0} → List A → ℕ → List A → List A
+written run at xs = take at run ++ (xs ++ drop (at + length xs) run)
+
+abbrev pub recordOf : Command → Record
+recordOf c = record { command = c }
+
+-- the runs after a step: what it appends stands behind the used parts
+abbrev pub runsAfter : State → Step → Runs → Runs
+runsAfter s t r =
+    record {
+      commands = written (r .commands) (s .progress .commands) (map recordOf (t .commands));
+      bytes = written (r .bytes) (s .progress .bytes) (t .bytes);
+      queries = written (r .queries) (s .progress .queries) (t .queries);
+    }
+
+-- the call did what `step` says, with the runs that it was lent
+pub record Did (caps : PrivateCapabilities) (s : State) (r : Runs) (c : Call) (a : Answer) (r′ : Runs) : Type 0 where
+  pub outcome : a .outcome ≡ step caps (roomsOf r) s c .outcome
+  pub state : a .state ≡ step caps (roomsOf r) s c .state
+  pub runs : r′ ≡ runsAfter s (step caps (roomsOf r) s c) r

@@ -1,0 +1,288 @@
+-- The tie to the code: a run in which each call did what its contract says (`Did`), each handed what the last one left; and the order theorem about the states and the lists of such a run. Assumes nothing.
+use Prim.Native.Nat.{ℕ, zero, suc, _+_, _-_, _≤_, _<_, zero-le}
+use mathlib.Core.Path.{_≡_, refl, sym, ap, ap₂, _∙_, subst}
+use mathlib.Core.Bool.{Bool, true, false, cond, not, _||_}
+use mathlib.Core.List.{List, [], _∷_, _++_, map, map-append, append-assoc, append-nil}
+use mathlib.Core.Logic.{_⊎_, inl, inr}
+use native.Mathlib.Nat.{add-zero, le-of-eq}
+use native.Mathlib.Omega.{arith}
+use lib.Dec.{ltb}
+use lib.ListN.{length, take, drop, length-append, length-drop, take-append-drop, length-map}
+use lib.Seq.{length-take-le, take-take, take-at}
+use borrow.Author.Tests.{ltb-false}
+use Rattle.records.specs.Outcome.{accepted}
+use Rattle.records.specs.Check.{overRoom}
+use Rattle.records.specs.declared.check.Rooms.{Rooms}
+use Rattle.records.specs.declared.command.Command.{Command}
+use Rattle.records.specs.declared.command.Record.{Record}
+use Rattle.records.specs.declared.pipeline.PrivateCapabilities.{PrivateCapabilities}
+use Rattle.records.specs.declared.state.Answer.{Answer}
+use Rattle.records.specs.declared.state.Progress.{Progress}
+use Rattle.records.specs.declared.state.State.{State}
+use Rattle.calls.specs.Call.{Call, begin-encoding, end-encoding, begin-render-pass, end-render-pass, begin-compute-pass, end-compute-pass, transition-buffers, transition-textures, clear-buffer, copy-buffer-to-buffer, copy-query-results, begin-query, end-query, write-timestamp, reset-queries, set-bind-group, set-immediates, set-render-pipeline, set-compute-pipeline, set-index-buffer, set-vertex-buffer, set-viewport, set-scissor-rect, set-stencil-reference, set-blend-constants, draw, draw-indexed, draw-indirect, draw-indexed-indirect, dispatch-workgroups, dispatch-workgroups-indirect}
+use Rattle.calls.specs.Parts.{withProgress}
+use Rattle.calls.specs.Meaning.{Meaning}
+use Rattle.calls.specs.Step.{meaning, progressAfter, outcomeOf, Step, step}
+use Rattle.calls.specs.Did.{Runs, roomsOf, written, recordOf, runsAfter, Did}
+use Rattle.order.specs.Lists.{or-left, or-right}
+use Rattle.order.specs.Machine.{Shot, fresh, play}
+use Rattle.order.specs.Book.{Entered, Fed, Book, empty, bookOf}
+use Rattle.order.specs.Accepted.{in-room, was-in-room}
+use Rattle.order.specs.Run.{carried, Recording, record-call, record-calls, fed, Premises, begun}
+use Rattle.order.specs.Invariant.{Agree}
+use Rattle.order.specs.Induction.{Goes, goes, Right, began, all-calls, as-many, found, found-is}
+use Rattle.order.specs.Theorem.{named}
+
+-- each call of the list did what its contract says, from the state s and the runs r to s′ and r′
+pub data Ran (caps : PrivateCapabilities) : State → Runs → List Call → State → Runs → Type 0 where
+  done : {s : State} {r : Runs} → Ran caps s r [] s r
+  then : {s s′ : State} {r r₁ r′ : Runs} {c : Call} {cs : List Call} (a : Answer) → Did caps s r c a r₁ → Ran caps (a .state) r₁ cs s′ r′ → Ran caps s r (c ∷ cs) s′ r′
+
+-- the commands of the used part of the list
+abbrev pub commandsOf : State → Runs → List Command
+commandsOf s r = map (λ (x : Record). x .command) (take (s .progress .commands) (r .commands))
+
+-- ---- a call appends nothing to a run, or it is handed the run and appends behind what the state counts
+abbrev Lent : {A : Type 0} → List A → ℕ → ℕ → ℕ → ℕ → Type 0
+Lent xs handed room after before = (xs ≡ []) ⊎ ((handed ≡ room) × (after ≡ before))
+
+lends : (caps : PrivateCapabilities) (rooms : Rooms) (s : State) (c : Call)
+    → Lent (meaning caps s c .commands) (meaning caps s c .handed rooms .commands) (rooms .commands) (meaning caps s c .after .progress .commands) (s .progress .commands)
+    × Lent (meaning caps s c .bytes) (meaning caps s c .handed rooms .bytes) (rooms .bytes) (meaning caps s c .after .progress .bytes) (s .progress .bytes)
+    × Lent (meaning caps s c .queries) (meaning caps s c .handed rooms .queries) (rooms .queries) (meaning caps s c .after .progress .queries) (s .progress .queries)
+lends caps rooms s begin-encoding = (inl refl, inl refl, inl refl)
+lends caps rooms s end-encoding = (inl refl, inl refl, inl refl)
+lends caps rooms s (reset-queries set start end) = (inl refl, inl refl, inl refl)
+lends caps rooms s (set-vertex-buffer i raw offset) = (inl refl, inl refl, inl refl)
+lends caps rooms s (begin-render-pass d label set) = (inr (refl, refl), inr (refl, refl), inl refl)
+lends caps rooms s (begin-compute-pass t label set) = (inr (refl, refl), inr (refl, refl), inl refl)
+lends caps rooms s (set-immediates offset ws) = (inr (refl, refl), inr (refl, refl), inl refl)
+lends caps rooms s (copy-query-results set start end dst offset) = (inr (refl, refl), inl refl, inr (refl, refl))
+lends caps rooms s end-render-pass = (inr (refl, refl), inl refl, inl refl)
+lends caps rooms s end-compute-pass = (inr (refl, refl), inl refl, inl refl)
+lends caps rooms s (transition-buffers l) = (inr (refl, refl), inl refl, inl refl)
+lends caps rooms s (transition-textures l) = (inr (refl, refl), inl refl, inl refl)
+lends caps rooms s (clear-buffer x range) = (inr (refl, refl), inl refl, inl refl)
+lends caps rooms s (copy-buffer-to-buffer src dst l) = (inr (refl, refl), inl refl, inl refl)
+lends caps rooms s (begin-query set i) = (inr (refl, refl), inl refl, inl refl)
+lends caps rooms s (end-query set i) = (inr (refl, refl), inl refl, inl refl)
+lends caps rooms s (write-timestamp set i) = (inr (refl, refl), inl refl, inl refl)
+lends caps rooms s (set-bind-group l i e g os) = (inr (refl, refl), inl refl, inl refl)
+lends caps rooms s (set-render-pipeline p) = (inr (refl, refl), inl refl, inl refl)
+lends caps rooms s (set-compute-pipeline p) = (inr (refl, refl), inl refl, inl refl)
+lends caps rooms s (set-index-buffer raw offset format) = (inr (refl, refl), inl refl, inl refl)
+lends caps rooms s (set-viewport r d) = (inr (refl, refl), inl refl, inl refl)
+lends caps rooms s (set-scissor-rect r) = (inr (refl, refl), inl refl, inl refl)
+lends caps rooms s (set-stencil-reference v) = (inr (refl, refl), inl refl, inl refl)
+lends caps rooms s (set-blend-constants k) = (inr (refl, refl), inl refl, inl refl)
+lends caps rooms s (draw vertex vertices instance instances) = (inr (refl, refl), inl refl, inl refl)
+lends caps rooms s (draw-indexed fst count base instance instances) = (inr (refl, refl), inl refl, inl refl)
+lends caps rooms s (draw-indirect raw offset n) = (inr (refl, refl), inl refl, inl refl)
+lends caps rooms s (draw-indexed-indirect raw offset n) = (inr (refl, refl), inl refl, inl refl)
+lends caps rooms s (dispatch-workgroups x y z) = (inr (refl, refl), inl refl, inl refl)
+lends caps rooms s (dispatch-workgroups-indirect raw offset) = (inr (refl, refl), inl refl, inl refl)
+
+-- ---- one run
+nothing-written : {A : Type 0} (run : List A) (at : ℕ) → written run at [] ≡ run
+nothing-written run at = ap (λ (n : ℕ). take at run ++ drop n run) (add-zero at) ∙ take-append-drop at run
+
+written-long : {A : Type 0} (run : List A) (at : ℕ) (xs : List A) → at + length xs ≤ length run → length (written run at xs) ≡ length run
+written-long run at xs h =
+    length-append (take at run) (xs ++ drop (at + length xs) run)
+    ∙ ap₂ (λ (a b : ℕ). a + b) (length-take-le at run (omega arith)) (length-append xs (drop (at + length xs) run) ∙ ap (λ (n : ℕ). length xs + n) (length-drop (at + length xs) run))
+    ∙ adds at (length xs) (length run) h
+  where
+    adds : (a x r : ℕ) → a + x ≤ r → a + (x + (r - (a + x))) ≡ r
+    adds a x r h = omega arith
+
+-- the run is as long as before, and what the next state counts of it is what it counted, and then what was appended
+lent-run : {A : Type 0} (run : List A) (xs : List A) (handed room after before : ℕ) → Lent xs handed room after before → length run ≡ room → after + length xs ≤ handed → after ≤ before → before ≤ length run
+    → (length (written run before xs) ≡ length run) × (take (after + length xs) (written run before xs) ≡ take after (take before run) ++ xs)
+lent-run run xs handed room after before (inl e) n h l k = (
+  ap (λ (ys : List _). length (written run before ys)) e ∙ ap length (nothing-written run before),
+  subst (λ (ys : List _). take (after + length ys) (written run before ys) ≡ take after (take before run) ++ ys) (sym e)
+      (ap₂ (λ (i : ℕ) (ys : List _). take i ys) (add-zero after) (nothing-written run before) ∙ sym (take-take after before run l) ∙ sym (append-nil (take after (take before run)))),
+)
+lent-run run xs handed room after before (inr (p, q)) n h l k = (
+  written-long run before xs fits,
+  ap (λ (i : ℕ). take (i + length xs) (written run before xs)) q
+      ∙ ap (take (before + length xs)) (sym (append-assoc (take before run) xs (drop (before + length xs) run)))
+      ∙ take-at (take before run ++ xs) (drop (before + length xs) run) (before + length xs) (length-append (take before run) xs ∙ ap (λ (i : ℕ). i + length xs) (length-take-le before run k))
+      ∙ ap (λ (ys : List _). ys ++ xs) (sym (ap (λ (i : ℕ). take i (take before run)) q ∙ take-take before before run (le-of-eq refl))),
+)
+  where
+    fits : before + length xs ≤ length run
+    fits = omega arith
+
+-- ---- one call
+pub record Within (s : State) (r : Runs) : Type 0 where
+  pub commands : s .progress .commands ≤ length (r .commands)
+  pub bytes : s .progress .bytes ≤ length (r .bytes)
+  pub queries : s .progress .queries ≤ length (r .queries)
+
+-- what a call leaves of the runs: as long as they were, and the list is the recording's
+record Left (caps : PrivateCapabilities) (s : State) (r : Runs) (c : Call) (s′ : State) (r′ : Runs) : Type 0 where
+  pub rooms : roomsOf r′ ≡ roomsOf r
+  pub within : Within s′ r′
+  pub list : commandsOf s′ r′ ≡ record-call caps (roomsOf r) (record { state = s; list = commandsOf s r }) c .list
+
+-- the counts of the state that a call goes on from
+counts : (caps : PrivateCapabilities) (s : State) (c : Call)
+    → (meaning caps s c .after .progress .commands ≤ s .progress .commands) × (meaning caps s c .after .progress .bytes ≤ s .progress .bytes) × (meaning caps s c .after .progress .queries ≤ s .progress .queries)
+counts caps s c = go (goes caps s c)
+  where
+    go : Goes caps s c
+        → (meaning caps s c .after .progress .commands ≤ s .progress .commands) × (meaning caps s c .after .progress .bytes ≤ s .progress .bytes) × (meaning caps s c .after .progress .queries ≤ s .progress .queries)
+    go (inl (p, h)) = (le-of-eq (ap (λ (x : Progress). x .commands) p), le-of-eq (ap (λ (x : Progress). x .bytes) p), le-of-eq (ap (λ (x : Progress). x .queries) p))
+    go (inr (p, h)) = (
+      subst (λ (n : ℕ). n ≤ s .progress .commands) (sym (ap (λ (x : Progress). x .commands) p)) zero-le,
+      subst (λ (n : ℕ). n ≤ s .progress .bytes) (sym (ap (λ (x : Progress). x .bytes) p)) zero-le,
+      subst (λ (n : ℕ). n ≤ s .progress .queries) (sym (ap (λ (x : Progress). x .queries) p)) zero-le,
+    )
+
+-- what room an accepted call has
+roomy : (p : Progress) (r : Rooms) → overRoom p r ≡ false → (p .commands ≤ r .commands) × (p .bytes ≤ r .bytes) × (p .queries ≤ r .queries)
+roomy p r e =
+    let a = or-right (ltb 1024 (p .queries)) _ (or-right (ltb 65536 (p .bytes)) _ (or-right (ltb 4096 (p .commands)) _ e)) in
+    let b = or-right (ltb (r .commands) (p .commands)) (ltb (r .bytes) (p .bytes) || ltb (r .queries) (p .queries)) a in (
+      ltb-false (r .commands) (p .commands) (or-left (ltb (r .commands) (p .commands)) (ltb (r .bytes) (p .bytes) || ltb (r .queries) (p .queries)) a),
+      ltb-false (r .bytes) (p .bytes) (or-left (ltb (r .bytes) (p .bytes)) (ltb (r .queries) (p .queries)) b),
+      ltb-false (r .queries) (p .queries) (or-right (ltb (r .bytes) (p .bytes)) (ltb (r .queries) (p .queries)) b),
+    )
+
+-- a run that grows to a count stays within it
+grown : {A : Type 0} (run xs : List A) (handed room after before : ℕ) → Lent xs handed room after before → length run ≡ room → after + length xs ≤ handed → after ≤ before → before ≤ length run → after + length xs ≤ length run
+grown run xs handed room after before (inl e) n h l k = subst (λ (ys : List _). after + length ys ≤ length run) (sym e) (omega arith)
+grown run xs handed room after before (inr (p, q)) n h l k = omega arith
+
+mapped-back : (cs : List Command) → map (λ (x : Record). x .command) (map recordOf cs) ≡ cs
+mapped-back [] = refl
+mapped-back (c ∷ cs) = ap (λ (l : List Command). c ∷ l) (mapped-back cs)
+
+mapped-empty : (cs : List Command) → cs ≡ [] → map recordOf cs ≡ []
+mapped-empty cs e = ap (map recordOf) e
+
+lent-map : (cs : List Command) (handed room after before : ℕ) → Lent cs handed room after before → Lent (map recordOf cs) handed room after before
+lent-map cs handed room after before (inl e) = inl (mapped-empty cs e)
+lent-map cs handed room after before (inr q) = inr q
+
+carried-through : (caps : PrivateCapabilities) (s : State) (r : Runs) (c : Call) → Within s r → carried caps (roomsOf r) s c ≡ true
+    → Left caps s r c (withProgress (progressAfter (meaning caps s c)) (meaning caps s c .after))
+    (record {
+      commands = written (r .commands) (s .progress .commands) (map recordOf (meaning caps s c .commands));
+      bytes = written (r .bytes) (s .progress .bytes) (meaning caps s c .bytes);
+      queries = written (r .queries) (s .progress .queries) (meaning caps s c .queries);
+    })
+carried-through caps s r c W e =
+    record {
+      rooms = λ j. record { commands = C .0 j; bytes = B .0 j; queries = Q .0 j };
+      within =
+          record {
+            commands = subst (λ (n : ℕ). n ≤ length (written (r .commands) (s .progress .commands) (map recordOf (q .commands)))) (ap (λ (n : ℕ). q .after .progress .commands + n) as-long) (subst (λ (n : ℕ). q .after .progress .commands + length (map recordOf (q .commands)) ≤ n) (sym (C .0)) c-fits);
+            bytes = subst (λ (n : ℕ). q .after .progress .bytes + length (q .bytes) ≤ n) (sym (B .0)) (grown (r .bytes) (q .bytes) _ _ _ _ (L .1) refl (fit .1) (low .1) (W .bytes));
+            queries = subst (λ (n : ℕ). q .after .progress .queries + length (q .queries) ≤ n) (sym (Q .0)) (grown (r .queries) (q .queries) _ _ _ _ (L .2) refl (fit .2) (low .2) (W .queries));
+          };
+      list =
+          ap (λ (n : ℕ). map (λ (x : Record). x .command) (take (q .after .progress .commands + n) (written (r .commands) (s .progress .commands) (map recordOf (q .commands))))) (sym as-long)
+          ∙ ap (map (λ (x : Record). x .command)) (C .1)
+          ∙ map-append (λ (x : Record). x .command) (take (q .after .progress .commands) (take (s .progress .commands) (r .commands))) (map recordOf (q .commands))
+          ∙ ap₂ (λ (a b : List Command). a ++ b) (map-take (q .after .progress .commands) (take (s .progress .commands) (r .commands))) (mapped-back (q .commands))
+          ∙ sym (ap (λ (t : Bool). cond t (take (q .after .progress .commands) (commandsOf s r) ++ q .commands) (commandsOf s r)) e);
+    }
+  where
+    q : Meaning
+    q = meaning caps s c
+
+    L : Lent (q .commands) (q .handed (roomsOf r) .commands) (length (r .commands)) (q .after .progress .commands) (s .progress .commands)
+        × Lent (q .bytes) (q .handed (roomsOf r) .bytes) (length (r .bytes)) (q .after .progress .bytes) (s .progress .bytes)
+        × Lent (q .queries) (q .handed (roomsOf r) .queries) (length (r .queries)) (q .after .progress .queries) (s .progress .queries)
+    L = lends caps (roomsOf r) s c
+
+    fit : (progressAfter q .commands ≤ q .handed (roomsOf r) .commands) × (progressAfter q .bytes ≤ q .handed (roomsOf r) .bytes) × (progressAfter q .queries ≤ q .handed (roomsOf r) .queries)
+    fit = roomy (progressAfter q) (q .handed (roomsOf r)) (in-room (roomsOf r) s q e)
+
+    low : (q .after .progress .commands ≤ s .progress .commands) × (q .after .progress .bytes ≤ s .progress .bytes) × (q .after .progress .queries ≤ s .progress .queries)
+    low = counts caps s c
+
+    as-long : length (map recordOf (q .commands)) ≡ length (q .commands)
+    as-long = length-map (q .commands) recordOf
+
+    c-handed : q .after .progress .commands + length (map recordOf (q .commands)) ≤ q .handed (roomsOf r) .commands
+    c-handed = subst (λ (n : ℕ). q .after .progress .commands + n ≤ q .handed (roomsOf r) .commands) (sym as-long) (fit .0)
+
+    c-fits : q .after .progress .commands + length (map recordOf (q .commands)) ≤ length (r .commands)
+    c-fits = grown (r .commands) (map recordOf (q .commands)) _ _ _ _ (lent-map (q .commands) _ _ _ _ (L .0)) refl c-handed (low .0) (W .commands)
+
+    C : (length (written (r .commands) (s .progress .commands) (map recordOf (q .commands))) ≡ length (r .commands))
+        × (take (q .after .progress .commands + length (map recordOf (q .commands))) (written (r .commands) (s .progress .commands) (map recordOf (q .commands))) ≡ take (q .after .progress .commands) (take (s .progress .commands) (r .commands)) ++ map recordOf (q .commands))
+    C = lent-run (r .commands) (map recordOf (q .commands)) _ _ _ _ (lent-map (q .commands) _ _ _ _ (L .0)) refl c-handed (low .0) (W .commands)
+
+    B : (length (written (r .bytes) (s .progress .bytes) (q .bytes)) ≡ length (r .bytes)) × (take (q .after .progress .bytes + length (q .bytes)) (written (r .bytes) (s .progress .bytes) (q .bytes)) ≡ take (q .after .progress .bytes) (take (s .progress .bytes) (r .bytes)) ++ q .bytes)
+    B = lent-run (r .bytes) (q .bytes) _ _ _ _ (L .1) refl (fit .1) (low .1) (W .bytes)
+
+    Q : (length (written (r .queries) (s .progress .queries) (q .queries)) ≡ length (r .queries)) × (take (q .after .progress .queries + length (q .queries)) (written (r .queries) (s .progress .queries) (q .queries)) ≡ take (q .after .progress .queries) (take (s .progress .queries) (r .queries)) ++ q .queries)
+    Q = lent-run (r .queries) (q .queries) _ _ _ _ (L .2) refl (fit .2) (low .2) (W .queries)
+
+    map-take : (n : ℕ) (l : List Record) → map (λ (x : Record). x .command) (take n l) ≡ take n (map (λ (x : Record). x .command) l)
+    map-take zero l = refl
+    map-take (suc n) [] = refl
+    map-take (suc n) (x ∷ l) = ap (λ (k : List Command). x .command ∷ k) (map-take n l)
+
+one-did : (caps : PrivateCapabilities) (s : State) (r : Runs) (c : Call) → Within s r → Left caps s r c (step caps (roomsOf r) s c .state) (runsAfter s (step caps (roomsOf r) s c) r)
+one-did caps s r c W = go (carried caps (roomsOf r) s c) refl
+  where
+    q : Meaning
+    q = meaning caps s c
+
+    go : (t : Bool) → carried caps (roomsOf r) s c ≡ t
+        → Left caps s r c (cond t (withProgress (progressAfter q) (q .after)) s)
+        (record {
+          commands = written (r .commands) (s .progress .commands) (map recordOf (cond t (q .commands) []));
+          bytes = written (r .bytes) (s .progress .bytes) (cond t (q .bytes) []);
+          queries = written (r .queries) (s .progress .queries) (cond t (q .queries) []);
+        })
+    go true e = carried-through caps s r c W e
+    go false e =
+        let a = nothing-written (r .commands) (s .progress .commands) in
+        let b = nothing-written (r .bytes) (s .progress .bytes) in
+        let d = nothing-written (r .queries) (s .progress .queries) in
+        subst (λ (x : Runs). Left caps s r c s x) (sym (λ j. record { commands = a j; bytes = b j; queries = d j }))
+        (record { rooms = refl; within = W; list = sym (ap (λ (t : Bool). cond t (take (q .after .progress .commands) (commandsOf s r) ++ q .commands) (commandsOf s r)) e) })
+
+-- ---- a whole run
+pub ran-records : (caps : PrivateCapabilities) {s s′ : State} {r r′ : Runs} {cs : List Call} → Ran caps s r cs s′ r′ → Within s r
+    → (s′ ≡ record-calls caps (roomsOf r) (record { state = s; list = commandsOf s r }) cs .state) × (commandsOf s′ r′ ≡ record-calls caps (roomsOf r) (record { state = s; list = commandsOf s r }) cs .list)
+unfolding record-calls
+ran-records caps done W = (refl, refl)
+ran-records caps {s} {s′} {r} {r′} (then {r₁ = r₁} {c = c} {cs = cs} a d R) W =
+    let L = subst (λ (x : Runs). Left caps s r c (a .state) x) (sym (d .runs)) (subst (λ (x : State). Left caps s r c x (runsAfter s (step caps (roomsOf r) s c) r)) (sym (d .state)) (one-did caps s r c W)) in
+    let I = ran-records caps R (L .within) in
+    let e : record { state = a .state; list = commandsOf (a .state) r₁ } ≡ record-call caps (roomsOf r) (record { state = s; list = commandsOf s r }) c = λ j. record { state = d .state j; list = L .list j } in
+    let f : Rooms → Recording → Recording = λ x y. record-calls caps x y cs in
+    (I .0 ∙ ap (λ (y : Recording). y .state) (ap₂ f (L .rooms) e), I .1 ∙ ap (λ (y : Recording). y .list) (ap₂ f (L .rooms) e))
+
+-- THE ORDER THEOREM of the code's own states and lists: for any run after an accepted `begin_encoding` in which each call did what its contract says
+pub order-of-run : (caps : PrivateCapabilities) (s₀ s′ : State) (r₀ r r′ : Runs) (a : Answer) (calls : List Call) (D : ℕ → Bool)
+    → Did caps s₀ r₀ begin-encoding a r → carried caps (roomsOf r₀) s₀ begin-encoding ≡ true → Ran caps (a .state) r calls s′ r′
+    → Premises caps D empty (fed caps (roomsOf r) (a .state) calls)
+    → (length (play fresh (commandsOf s′ r′) .shots) ≡ length (bookOf caps empty (fed caps (roomsOf r) (a .state) calls) .draws))
+    × (found (bookOf caps empty (fed caps (roomsOf r) (a .state) calls) .draws) (play fresh (commandsOf s′ r′) .shots) ≡ named (bookOf caps empty (fed caps (roomsOf r) (a .state) calls) .draws))
+order-of-run caps s₀ s′ r₀ r r′ a calls D d e R P =
+    let begins : a .state ≡ begun caps (roomsOf r₀) s₀ .state = d .state in
+    let nothing : commandsOf (a .state) r ≡ [] = ap (λ (n : ℕ). map (λ (x : Record). x .command) (take n (r .commands))) (zero-count) in
+    let list = ran-records caps R within .1 ∙ ap (λ (l : List Command). record-calls caps (roomsOf r) (record { state = a .state; list = l }) calls .list) nothing in
+    let A = all-calls caps (roomsOf r) D (record { state = a .state; list = [] }) empty calls (subst (λ (x : State). Right caps D (record { state = x; list = [] }) empty) (sym begins) (began caps (roomsOf r₀) D s₀ e)) P .tied .log in
+    let B = subst (λ (l : List Command). Agree (play fresh l .shots) (bookOf caps empty (fed caps (roomsOf r) (a .state) calls) .draws)) (sym list) A in (
+      as-many (play fresh (commandsOf s′ r′) .shots) (bookOf caps empty (fed caps (roomsOf r) (a .state) calls) .draws) B,
+      found-is (play fresh (commandsOf s′ r′) .shots) (bookOf caps empty (fed caps (roomsOf r) (a .state) calls) .draws) B,
+    )
+  where
+    fresh-state : a .state ≡ withProgress (progressAfter (meaning caps s₀ begin-encoding)) (meaning caps s₀ begin-encoding .after)
+    fresh-state = d .state ∙ ap (λ (t : Bool). cond t (withProgress (progressAfter (meaning caps s₀ begin-encoding)) (meaning caps s₀ begin-encoding .after)) s₀) e
+
+    zero-count : a .state .progress .commands ≡ 0
+    zero-count = ap (λ (x : State). x .progress .commands) fresh-state
+
+    within : Within (a .state) r
+    within =
+        subst (λ (x : State). Within x r) (sym fresh-state) (record { commands = zero-le; bytes = zero-le; queries = zero-le })
