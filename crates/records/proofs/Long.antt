@@ -18,6 +18,10 @@ use Rattle.records.proofs.state.VertexState.{the-type as the-vertex}
 long : {A B : Type 0} (f : A → B) (l : List A) (n : ℕ) → length (map f l) ≡ n → length l ≡ n
 long f l n e = sym (length-map l f) ∙ e
 
+-- field 4
+pub buffers-long : (s : VertexState) (vs : List Val) → Is (row the-vertex) s vs → length (s .buffers) ≡ 16
+buffers-long s vs g = long _ (s .buffers) 16 (g .1 .1 .1 .1 .1 .1 .0 .1 .0 .1)
+
 -- field 8
 pub attributes-long : (s : VertexState) (vs : List Val) → Is (row the-vertex) s vs → length (s .attributes) ≡ 16
 attributes-long s vs g = long _ (s .attributes) 16 (g .1 .1 .1 .1 .1 .1 .1 .1 .1 .1 .0 .1 .0 .1)

@@ -1,1 +1,103 @@
-// Vertex slots at a draw: `prepare_draw` and `rebind_vertex_data` of gles/command.rs.
+// Vertex slots at a draw: `prepare_draw` and `rebind_vertex_data` of gles/command.rs. The commands
+// are worked out by count and place. The contracts cite specs/Prepare.antt.
+ghost use mathlib.Core.Path.{_≡_};
+ghost use mathlib.Core.List.{map};
+ghost use Prim.Native.Nat.{_+_};
+ghost use lib.ListN.{length};
+ghost use Rattle.mask.specs.Mask.{places};
+ghost use Rattle.records.specs.Check.{some?};
+ghost use Rattle.slots.specs.Vertex.{slotAt, stepOf};
+ghost use Rattle.slots.specs.Prepare.{working as workingOf, woken as wokenOf, rebound as reboundOf, slotOffset, slotOver, attributeOver, sentOf, slotsOf};
+use records::command::AttributeDesc;
+use records::command::VertexStepMode;
+use records::limits::MAX_VERTEX_BUFFERS;
+use records::pipeline::PrivateCapabilities;
+use records::state::VertexSlot;
+use records::state::VertexState;
+
+// The instance that the slots are moved on by.
+pub fn working(caps: PrivateCapabilities, first: u32) -> u32
+    ensures { λ r. ⌜ r ≡ workingOf caps first ⌝ }
+{
+    if caps.fully_featured_instancing {
+        0
+    } else {
+        first
+    }
+}
+
+// The dirty mask at a draw.
+pub fn woken(v: VertexState, w: u32) -> u32
+    ensures { λ r. ⌜ r ≡ wokenOf v w ⌝ }
+{
+    if w == v.active_first_instance {
+        v.dirty_vbuf_mask
+    } else {
+        v.dirty_vbuf_mask | v.instance_vbuf_mask
+    }
+}
+
+// The slots to rebind, by masks alone.
+pub fn rebound(v: VertexState, w: u32) -> u32
+    ensures { λ r. ⌜ r ≡ reboundOf v w ⌝ }
+{
+    let dirty = woken(v, w);
+    dirty & v.described & v.bound
+}
+
+pub fn slot_at(v: VertexState, i: u32) -> VertexSlot
+    ensures { λ r. ⌜ r ≡ slotAt v i ⌝ }
+{
+    if i < 16 {
+        let at = i as usize;
+        v.buffers[at]
+    } else {
+        VertexSlot::new()
+    }
+}
+
+pub fn step_of(by_instance: bool) -> VertexStepMode
+    ensures { λ r. ⌜ r ≡ stepOf «by_instance» ⌝ }
+{
+    if by_instance {
+        VertexStepMode::Instance
+    } else {
+        VertexStepMode::Vertex
+    }
+}
+
+// How far slot i is moved on.
+pub fn slot_offset(v: VertexState, w: u32, i: u32) -> u64
+    ensures { λ r. ⌜ r ≡ slotOffset v w i ⌝ }
+{
+    let slot = slot_at(v, i);
+    if mask::test(v.by_instance, i) {
+        (w as u64) * (slot.stride as u64)
+    } else {
+        0
+    }
+}
+
+// Condition 6 of slot i, with layouts.
+pub fn slot_over(v: VertexState, w: u32, i: u32) -> bool
+    ensures { λ r. ⌜ r ≡ slotOver v w i ⌝ }
+{
+    let slot = slot_at(v, i);
+    let more = slot_offset(v, w, i);
+    (4294967295 < more) | (18446744073709551615 - slot.offset < more)
+}
+
+// Condition 6 of an attribute, without layouts.
+pub fn attribute_over(v: VertexState, w: u32, a: AttributeDesc) -> bool
+    ensures { λ r. ⌜ r ≡ attributeOver v w a ⌝ }
+{
+    let slot = slot_at(v, a.buffer_index);
+    let more = slot_offset(v, w, a.buffer_index);
+    if 4294967295 < more {
+        return true;
+    }
+    if 4294967295 < slot.offset {
+        return true;
+    }
+    4294967295 < (a.offset as u64) + slot.offset + more
+}
