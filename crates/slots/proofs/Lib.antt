@@ -1,2 +1,5 @@
+pub mod Flags
 pub mod Limits
+pub mod Masks
+pub mod Places
 pub mod Product

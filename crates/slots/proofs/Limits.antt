@@ -1,9 +1,14 @@
 -- Where a number or a sum leaves its field, said without the sum. Assumes nothing.
-use Prim.Native.Nat.{ℕ, _+_, _-_, _<_, _≤_}
+use Prim.Native.Nat.{ℕ, _+_, _-_, _^_, _<_, _≤_}
 use mathlib.Core.Bool.{Bool, true, false, not, _&&_, _||_}
 use mathlib.Core.Path.{_≡_, refl}
 use native.Mathlib.Omega.{arith}
 use lib.Dec.{ltb}
+use Rattle.records.specs.declared.command.AttributeDesc.{AttributeDesc}
+use Rattle.records.specs.declared.state.VertexSlot.{VertexSlot}
+use Rattle.records.specs.declared.state.VertexState.{VertexState}
+use Rattle.slots.specs.Vertex.{slotAt}
+use Rattle.slots.specs.Prepare.{slotOffset, attributeOffset, attributeOver}
 use borrow.Author.Tests.{ltb-true, ltb-false, lt-ltb, le-ltb}
 
 other-way : (x y p q : ℕ) → (p < q → y ≤ x) → (q ≤ p → x < y) → ltb x y ≡ not (ltb p q)
@@ -28,3 +33,24 @@ not-both false u = refl
 pub not-second : (t : Bool) → true ≡ not (t && false)
 not-second true = refl
 not-second false = refl
+
+bad : {X : Type 0} → true ≡ false → X
+bad e = let z : _≡_ {A = ℕ} 0 1 = cc in absurd (omega arith)
+
+-- what the limits of slot i and of an attribute say where they are kept
+pub record Fits (product sum n : ℕ) : Type 0 where
+  pub product-fits : product < 2 ^ 32
+  pub sum-fits : sum < n
+
+pub fits : (product sum n : ℕ) → not (ltb product (2 ^ 32) && ltb sum n) ≡ false → Fits product sum n
+fits product sum n e = go (ltb product (2 ^ 32)) refl (ltb sum n) refl e
+  where
+    go : (t : Bool) → ltb product (2 ^ 32) ≡ t → (u : Bool) → ltb sum n ≡ u → not (t && u) ≡ false → Fits product sum n
+    go true p true q e = record { product-fits = ltb-true product (2 ^ 32) p; sum-fits = ltb-true sum n q }
+    go true p false q e = bad e
+    go false p u q e = bad e
+
+pub attribute-fits : (v : VertexState) (w : ℕ) (a : AttributeDesc) (slot : VertexSlot) (more : ℕ)
+    → slot ≡ slotAt v (a .«buffer_index») → more ≡ slotOffset v w (a .«buffer_index») → attributeOver v w a ≡ false
+    → a .offset + slot .offset + more < 2 ^ 32
+attribute-fits v w a slot more s m e = rw (s, m) (fits (slotOffset v w (a .«buffer_index»)) (attributeOffset v w a) (2 ^ 32) e .sum-fits)

@@ -1,2 +1,4 @@
 pub mod Vertex
 pub mod Prepare
+pub mod Sent
+pub mod Sweep

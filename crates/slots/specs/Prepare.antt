@@ -1,7 +1,7 @@
 -- Vertex slots at a draw: document 01, "Vertex slots at a draw"; `prepare_draw` and `rebind_vertex_data` of gles/command.rs. Definitions only.
 use Prim.Native.Nat.{ℕ, _+_, _*_, _^_}
-use mathlib.Core.Bool.{Bool, true, false, cond, not, _&&_, _||_}
-use mathlib.Core.List.{List, [], _∷_, _++_, map}
+use mathlib.Core.Bool.{Bool, cond, not, _&&_}
+use mathlib.Core.List.{List, [], _∷_, map}
 use lib.Dec.{eqb, ltb}
 use lib.Bits.{bitAnd, bitOr}
 use Rattle.mask.specs.Mask.{testBit, without, places}
@@ -13,7 +13,6 @@ use Rattle.records.specs.declared.command.OptionU32.the-variants.{Some}
 use Rattle.records.specs.declared.command.VertexStepMode.{VertexStepMode}
 use Rattle.records.specs.declared.command.VertexStepMode.the-variants.{Vertex, Instance}
 use Rattle.records.specs.declared.command.VertexBufferDesc.{VertexBufferDesc}
-use Rattle.records.specs.declared.command.BufferBinding.{BufferBinding}
 use Rattle.records.specs.declared.command.AttributeDesc.{AttributeDesc}
 use Rattle.records.specs.declared.pipeline.PrivateCapabilities.{PrivateCapabilities}
 use Rattle.records.specs.declared.state.VertexState.{VertexState}

@@ -1,13 +1,12 @@
 // Vertex slots at a draw: `prepare_draw` and `rebind_vertex_data` of gles/command.rs. The commands
 // are worked out by count and place. The contracts cite specs/Prepare.antt.
 ghost use mathlib.Core.Path.{_≡_};
-ghost use mathlib.Core.List.{map};
-ghost use Prim.Native.Nat.{_+_};
-ghost use lib.ListN.{length};
-ghost use Rattle.mask.specs.Mask.{places};
-ghost use Rattle.records.specs.Check.{some?};
 ghost use Rattle.slots.specs.Vertex.{slotAt, stepOf};
-ghost use Rattle.slots.specs.Prepare.{working as workingOf, woken as wokenOf, rebound as reboundOf, slotOffset, slotOver, attributeOver, sentOf, slotsOf};
+ghost use Rattle.slots.specs.Prepare.{working as workingOf, woken as wokenOf, rebound as reboundOf, slotOffset, slotOver, attributeOver};
+
+pub mod command;
+pub mod prepare;
+
 use records::command::AttributeDesc;
 use records::command::VertexStepMode;
 use records::limits::MAX_VERTEX_BUFFERS;
