@@ -1,10 +1,10 @@
 -- `slots::prepare::prepare` meets its contract: with layouts by the mask, without by the sweep. Assumes nothing.
 use Prim.Native.Nat.{_^_, _<_}
-use mathlib.Core.Path.{_≡_}
+use mathlib.Core.Path.{_≡_, ap₂, _∙_}
 use native.Mathlib.Omega.{arith}
 use lib.Count.{ones}
 use lib.ListN.{length, length-map}
-use Rattle.mask.specs.Mask.{places}
+use Rattle.mask.specs.Mask.{places, without}
 use Rattle.mask.specs.Laws.{ones-places}
 use Rattle.slots.specs.Vertex.{attributesOf}
 use Rattle.slots.specs.Prepare.{rebound, sentOf, bufferCommand, bufferCommands, attributeCommand, attributeCommands}
@@ -48,7 +48,7 @@ returns c =
     let e : length (places (rebound (a .v) (a .w))) ≡ ones (rebound (a .v) (a .w)) = rw (m .ensures) at (ones-places 32 0 (m .result) h) in (
       rw (t, length-map (places (rebound (a .v) (a .w))) (bufferCommand (a .v) (a .w)), e) (rw (m .ensures) at (c .before .before .count .ensures)),
       rw t (m .ensures),
-      rw (t, c .before .without .ensures, m .ensures, c .before .before .before .before .woken .ensures),
+      rw t (c .before .without .ensures ∙ ap₂ without (c .before .before .before .before .woken .ensures) (m .ensures)),
       rw t (c .slots-over .ensures),
     )
 
