@@ -22,3 +22,6 @@ pub mod Run
 pub mod Induction
 pub mod Theorem
 pub mod Ran
+pub mod Samples
+pub mod Cases
+pub mod Witness
