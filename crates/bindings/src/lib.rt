@@ -1,2 +1,3 @@
-// Samplers and texture units, bind groups, immediates: `rebind_sampler_states`, `set_bind_group` and
+// Bind groups, samplers and immediates: `set_bind_group`, `rebind_sampler_states` and
 // `set_immediates` of gles/command.rs.
+pub mod units;

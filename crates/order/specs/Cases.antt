@@ -15,8 +15,14 @@ use Rattle.names.specs.declared.wgt.FrontFace.the-variants.{Ccw, Cw}
 use Rattle.records.specs.Start.{startState}
 use Rattle.records.specs.Outcome.{number, smallest}
 use Rattle.records.specs.Check.{some?, badUnits, among, twice}
+use Rattle.records.specs.declared.binding.BindingType.the-variants as type
+use Rattle.records.specs.declared.binding.BufferBindingType.the-variants.{Storage}
+use Rattle.records.specs.declared.binding.RawBinding.the-variants as content
 use Rattle.records.specs.declared.command.Command.{Command}
-use Rattle.records.specs.declared.command.Command.the-variants.{Draw, ResetFramebuffer, BindAttachment, InvalidateAttachments, SetDrawColorBuffers, ClearColorF, ClearColorU, ClearDepthAndStencil, SetViewport, SetScissor, SetStencilFunc, SetStencilOps, ConfigureDepthStencil, SetVertexAttribute, SetProgram, SetPrimitive, PushDebugGroup, PopDebugGroup, SetImmediates}
+use Rattle.records.specs.declared.command.Command.the-variants.{Draw, ResetFramebuffer, BindAttachment, InvalidateAttachments, SetDrawColorBuffers, ClearColorF, ClearColorU, ClearDepthAndStencil, SetViewport, SetScissor, SetStencilFunc, SetStencilOps, SetDepth, SetDepthBias, ConfigureDepthStencil, SetVertexAttribute, SetProgram, SetPrimitive, SetColorTarget, BindBuffer, PushDebugGroup, PopDebugGroup, SetImmediates}
+use Rattle.records.specs.declared.command.OptionBlend.the-variants.{None as noBlend}
+use Rattle.records.specs.declared.command.ColorTargetDesc.{ColorTargetDesc}
+use Rattle.records.specs.declared.command.DepthBiasState.{DepthBiasState}
 use Rattle.records.specs.declared.command.ImmediateDesc.{ImmediateDesc}
 use Rattle.records.specs.declared.command.OptionU32.the-variants.{None, Some}
 use Rattle.records.specs.declared.command.SampleKind.the-variants as kind
@@ -31,17 +37,18 @@ use Rattle.records.specs.declared.pipeline.OptionStencilState.the-variants as s
 use Rattle.records.specs.declared.pipeline.PrivateCapabilities.{PrivateCapabilities}
 use Rattle.records.specs.declared.pipeline.RenderPipeline.{RenderPipeline}
 use Rattle.slots.specs.Prepare.{bufferCommands, attributeCommands, sentOf}
+use Rattle.bindings.specs.Group.{zipped, groupCommands, groupState, groupTextures, groupSamplers, offsetMissing, groupOver}
 use Rattle.bindings.specs.Immediates.{bytesOf, immediateCommands, immediateBytes}
 use Rattle.bindings.specs.Units.{samplerCommands}
 use Rattle.pipeline.specs.Inner.{changedUnits}
 use Rattle.pipeline.specs.Fixed.{sameTargets, allSame, eachTarget}
 use Rattle.pass.specs.Render.{noPlace, fullDepth, beginRenderCommands, attachColors, resolvesFrom, invalidations, clearColors}
-use Rattle.calls.specs.Call.{Call, begin-render-pass, end-render-pass, begin-compute-pass, end-compute-pass, set-immediates, set-render-pipeline, set-vertex-buffer, set-scissor-rect, set-stencil-reference, draw, draw-indirect, dispatch-workgroups}
+use Rattle.calls.specs.Call.{Call, begin-render-pass, end-render-pass, begin-compute-pass, end-compute-pass, set-immediates, set-render-pipeline, set-vertex-buffer, set-viewport, set-scissor-rect, set-stencil-reference, draw, draw-indirect, dispatch-workgroups}
 use Rattle.calls.specs.Draws.{indirectCommands}
 use Rattle.calls.specs.Step.{step, outcomeOf}
 use Rattle.order.specs.Book.{Fed}
 use Rattle.order.specs.Run.{record-calls, fed, begun}
-use Rattle.order.specs.Samples.{emulated, full, bare, rooms, lent, noQueries, noLabel, emptyLabel, byVertex, byInstance, attribute, innerOf, pipelineOf, pipeline, A, B, fetching, viewed, filled, passOf, pass, barePass, drawAt, viewport, rect, drawn, bound}
+use Rattle.order.specs.Samples.{emulated, full, bare, rooms, lent, noQueries, noLabel, emptyLabel, byVertex, byInstance, attribute, innerOf, pipelineOf, pipeline, fixedOf, entry, bindGroup, A, B, fetching, viewed, filled, passOf, pass, barePass, drawAt, viewport, rect, drawn, bound}
 
 -- a row: the board, the calls after `begin_encoding`, the last call; the number of its answer, 0 where it is carried through; the commands that it records
 pub record Case : Type 0 where
@@ -109,6 +116,22 @@ last-word = record { location = 3; ty = 9; offset = 252; «size_bytes» = 4 }
 
 abbrev immediate : RenderPipeline
 immediate = pipelineOf (innerOf 1 [] (last-word ∷ [])) [] [] stencil.None Ccw
+
+-- with depth, targets that differ, and a bias; with equal targets and another bias; with neither
+abbrev masked : ℕ → ColorTargetDesc
+masked m = record { mask = m; blend = noBlend }
+
+abbrev biased : ℕ → DepthBiasState
+biased slope = record { constant = pos 5; «slope_scale» = slope; clamp = 0 }
+
+abbrev differing : RenderPipeline
+differing = fixedOf (biased 1) (masked 15 ∷ masked 7 ∷ [])
+
+abbrev equal : RenderPipeline
+equal = fixedOf (biased 2) (masked 7 ∷ masked 7 ∷ [])
+
+abbrev neither : RenderPipeline
+neither = fixedOf (record { constant = pos 0; «slope_scale» = 0; clamp = 0 }) []
 
 -- views: a Uint texture, a float texture, the default renderbuffer, an external framebuffer, depth and stencil
 abbrev uint : TextureView
@@ -184,7 +207,8 @@ cases =
     ++ SetDrawColorBuffers 1 ∷ ClearColorU 0 (record { r = 0; g = 0; b = 0; a = 0 }) ∷ [])
     -- P 12: "places [empty, cleared Uint]: draw buffer 0"
     ∷ records emulated []
-    (pass (noPlace ∷ filled uint 10 view.None (colour 0x401c_0000_0000_0000 0x4020_0000_0000_0000 0x4022_0000_0000_0000 0x4024_0000_0000_0000) ∷ []) target.None)
+    (pass (noPlace ∷ filled uint 10 view.None (colour 0x401c_0000_0000_0000 0x4020_0000_0000_0000 0x4022_0000_0000_0000 0x4024_0000_0000_0000) ∷ [])
+    target.None)
     (ResetFramebuffer false ∷ BindAttachment 36065 uint None 1 ∷ extents
     ++ SetDrawColorBuffers 2 ∷ ClearColorU 0 (record { r = 7; g = 8; b = 9; a = 10 }) ∷ [])
     -- ---- the other edges
@@ -208,6 +232,26 @@ cases =
     -- the sample session of 'The command list': the pass, and the draw with slot 0 bound
     ∷ records emulated [] barePass (ResetFramebuffer false ∷ extents ++ SetDrawColorBuffers 0 ∷ [])
     ∷ records emulated (barePass ∷ set-vertex-buffer 0 7 0 ∷ []) (drawAt 0) (Draw 0 0 3 0 1 None ∷ [])
+    -- "recorded only on change. Differing targets are set one by one, equal ones once for all, an empty list once with the default"
+    ∷ records emulated (barePass ∷ set-render-pipeline neither ∷ []) (set-render-pipeline differing)
+    (SetProgram 1 ∷ SetDepthBias (biased 1) ∷ SetDepth (record { function = 513; mask = true }) ∷ ConfigureDepthStencil 2
+    ∷ SetColorTarget (Some 0) (masked 15) ∷ SetColorTarget (Some 1) (masked 7) ∷ [])
+    ∷ records emulated (barePass ∷ set-render-pipeline differing ∷ []) (set-render-pipeline differing)
+    (SetProgram 1 ∷ SetDepth (record { function = 513; mask = true }) ∷ ConfigureDepthStencil 2 ∷ [])
+    ∷ records emulated (barePass ∷ set-render-pipeline differing ∷ []) (set-render-pipeline equal)
+    (SetProgram 1 ∷ SetDepthBias (biased 2) ∷ SetDepth (record { function = 513; mask = true }) ∷ ConfigureDepthStencil 2
+    ∷ SetColorTarget None (masked 7) ∷ [])
+    ∷ records emulated (barePass ∷ set-render-pipeline equal ∷ []) (set-render-pipeline neither)
+    (SetProgram 1 ∷ SetDepthBias (record { constant = pos 0; «slope_scale» = 0; clamp = 0 }) ∷ SetDepth (record { function = 513; mask = true })
+    ∷ ConfigureDepthStencil 2 ∷ SetColorTarget None (masked 15) ∷ [])
+    -- a viewport whose four numbers differ; a storage buffer
+    ∷ records emulated (barePass ∷ [])
+    (set-viewport
+    (record { x = ofBits binary32 0x3fc0_0000; y = ofBits binary32 0x4020_0000; w = ofBits binary32 0x4060_0000; h = ofBits binary32 0x4090_0000 })
+    fullDepth)
+    (SetViewport (rect (pos 1) (pos 2) (pos 3) (pos 4)) fullDepth ∷ [])
+    ∷ records emulated (barePass ∷ []) (bindGroup (entry 0 (type.Buffer Storage false) 4 ∷ []) (content.Buffer 6 (pos 0) (pos 16) ∷ []) [])
+    (BindBuffer 37074 4 6 (pos 0) (pos 16) ∷ [])
     -- ---- 'Readings to be caught'
     -- "undescribed or unbound slots must remain dirty"
     ∷ records emulated (barePass ∷ set-render-pipeline one ∷ set-vertex-buffer 0 7 0 ∷ set-vertex-buffer 1 7 4 ∷ drawAt 0 ∷ set-render-pipeline two ∷ [])
@@ -252,5 +296,44 @@ cases =
 pub all-cases : map seen cases ≡ map said cases
 unfolding all-accepted record-calls fed outcomeOf smallest some? badUnits among twice testBit bitAt setBit without maskOf placesFrom maskBy tabulate
     clampTo convertTo ofBits round bufferCommands attributeCommands sentOf bytesOf immediateCommands immediateBytes samplerCommands changedUnits
+    zipped groupCommands groupState groupTextures groupSamplers offsetMissing groupOver
     sameTargets allSame eachTarget beginRenderCommands attachColors resolvesFrom invalidations clearColors indirectCommands
 all-cases = refl
+
+-- ---- what shows in the state alone
+-- "Dirty bits cleared wholesale at a draw" shows in the state alone: a slot that is described or bound later is marked then
+pub record Left : Type 0 where
+  pub board : PrivateCapabilities
+  pub calls : List Call
+  pub mask : ℕ
+
+abbrev pub left : Left → ℕ
+left l = record-calls (l .board) rooms (begun (l .board) rooms startState) (l .calls) .state .vertex .«dirty_vbuf_mask»
+
+-- slots 0 and 1 by vertex, and an attribute of slot 0 alone
+abbrev half : RenderPipeline
+half = pipeline 1 (byVertex 8 ∷ byVertex 4 ∷ []) (attribute 0 0 0 ∷ [])
+
+abbrev masks : List Left
+masks =
+    -- slot 1 undescribed; unbound; both described and bound
+    record { board = emulated; calls = barePass ∷ set-render-pipeline one ∷ set-vertex-buffer 0 7 0 ∷ set-vertex-buffer 1 7 4 ∷ drawAt 0 ∷ []; mask = 2 }
+    ∷ record { board = emulated; calls = barePass ∷ set-render-pipeline two ∷ set-vertex-buffer 0 7 0 ∷ drawAt 0 ∷ []; mask = 2 }
+    ∷ record { board = emulated; calls = barePass ∷ set-render-pipeline two ∷ set-vertex-buffer 0 7 0 ∷ set-vertex-buffer 1 7 4 ∷ drawAt 0 ∷ []; mask = 0 }
+    -- without layout "only slots with an attribute then lose their bit"
+    ∷ record { board = bare; calls = barePass ∷ set-render-pipeline half ∷ set-vertex-buffer 0 7 0 ∷ set-vertex-buffer 1 7 4 ∷ drawAt 0 ∷ []; mask = 2 }
+    ∷ []
+
+pub all-masks : map left masks ≡ map (λ (l : Left). l .mask) masks
+unfolding record-calls outcomeOf smallest some? badUnits among twice testBit bitAt setBit without maskOf placesFrom maskBy tabulate bufferCommands
+    attributeCommands sentOf samplerCommands changedUnits sameTargets beginRenderCommands attachColors resolvesFrom invalidations clearColors
+all-masks = refl
+
+-- the new pipeline's reference replaces the state's
+abbrev replaced : List Call
+replaced = barePass ∷ set-render-pipeline stenciled ∷ set-stencil-reference 9 ∷ set-render-pipeline stenciled ∷ []
+
+pub reference-replaced : record-calls emulated rooms (begun emulated rooms startState) replaced .state .fixed .stencil ≡ startStencilState
+unfolding record-calls outcomeOf smallest some? badUnits among twice testBit maskOf placesFrom maskBy tabulate samplerCommands changedUnits sameTargets
+    beginRenderCommands attachColors resolvesFrom invalidations clearColors
+reference-replaced = refl

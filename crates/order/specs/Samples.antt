@@ -20,6 +20,8 @@ use Rattle.records.specs.declared.check.Rooms.{Rooms}
 use Rattle.records.specs.declared.command.Command.{Command}
 use Rattle.records.specs.declared.command.Command.the-variants.{Draw, SetVertexBuffer}
 use Rattle.records.specs.declared.command.AttributeDesc.{AttributeDesc}
+use Rattle.records.specs.declared.command.ColorTargetDesc.{ColorTargetDesc}
+use Rattle.records.specs.declared.command.DepthBiasState.{DepthBiasState}
 use Rattle.records.specs.declared.command.ImmediateDesc.{ImmediateDesc}
 use Rattle.records.specs.declared.command.OptionU32.the-variants.{None, Some}
 use Rattle.records.specs.declared.command.RectI32.{RectI32}
@@ -151,6 +153,25 @@ pipelineOf inner slots attributes s face =
 -- a pipeline of slots and attributes alone
 abbrev pub pipeline : ℕ → List VertexBufferLayout → List AttributeDesc → RenderPipeline
 pipeline program slots attributes = pipelineOf (innerOf program [] []) slots attributes stencil.None Ccw
+
+-- a pipeline with a depth state, a depth bias and targets, and no slots
+abbrev pub fixedOf : DepthBiasState → List ColorTargetDesc → RenderPipeline
+fixedOf bias targets =
+    record {
+      inner = innerOf 1 [] [];
+      topology = TriangleList;
+      primitive = record { «front_face» = Ccw; «cull_mode» = cull.None; «unclipped_depth» = false; «polygon_mode» = Fill };
+      «vertex_buffers» = padded 16 noLayout [];
+      «vertex_buffer_count» = 0;
+      «vertex_attributes» = padded 16 startAttribute [];
+      «vertex_attribute_count» = 0;
+      «color_targets» = padded 8 startTarget targets;
+      «color_target_count» = length targets;
+      depth = depth.Some (record { function = 513; mask = true });
+      «depth_bias» = bias;
+      stencil = stencil.None;
+      «alpha_to_coverage_enabled» = false;
+    }
 
 -- document 01's A, whose slot 0 has instance step and stride 8, and its B, which describes no slot
 abbrev pub A : RenderPipeline

@@ -256,7 +256,9 @@ abbrev fetchesOf : List View → List (List (Option Fetch))
 fetchesOf vs = map (λ (v : View). v .fetches) vs
 
 -- at the third draw the machine fetches from byte 16, and the book names 56
-stale-fetches : (fetchesOf (foundBy stale) ≡ (from 16 ∷ []) ∷ [] ∷ (from 16 ∷ []) ∷ []) × (fetchesOf (namedBy stale) ≡ (from 16 ∷ []) ∷ [] ∷ (from 56 ∷ []) ∷ [])
+stale-fetches :
+    (fetchesOf (foundBy stale) ≡ (from 16 ∷ []) ∷ [] ∷ (from 16 ∷ []) ∷ [])
+    × (fetchesOf (namedBy stale) ≡ (from 16 ∷ []) ∷ [] ∷ (from 56 ∷ []) ∷ [])
 unfolding record-calls fed bookOf enterGroup outcomeOf smallest some? badUnits among twice testBit bitAt setBit without maskOf placesFrom maskBy tabulate
     bufferCommands zipped groupCommands groupState groupTextures groupSamplers offsetMissing groupOver samplerCommands changedUnits sameTargets
     beginRenderCommands attachColors resolvesFrom invalidations clearColors indirectCommands

@@ -26,6 +26,10 @@ buffers-long s vs g = long _ (s .buffers) 16 (g .1 .1 .1 .1 .1 .1 .0 .1 .0 .1)
 pub attributes-long : (s : VertexState) (vs : List Val) → Is (row the-vertex) s vs → length (s .attributes) ≡ 16
 attributes-long s vs g = long _ (s .attributes) 16 (g .1 .1 .1 .1 .1 .1 .1 .1 .1 .1 .0 .1 .0 .1)
 
+-- field 0
+pub samplers-long : (s : BindState) (vs : List Val) → Is (row the-bind) s vs → length (s .samplers) ≡ 16
+samplers-long s vs g = long _ (s .samplers) 16 (g .1 .1 .0 .1 .0 .1)
+
 -- field 2
 pub units-long : (s : BindState) (vs : List Val) → Is (row the-bind) s vs → length (s .«texture_slots») ≡ 16
 units-long s vs g = long _ (s .«texture_slots») 16 (g .1 .1 .1 .1 .0 .1 .0 .1)
