@@ -1,9 +1,7 @@
 // Samplers by number, and the texture units that take them. The contracts cite specs/Units.antt.
-ghost use Prim.Native.Nat.{_<_};
 ghost use mathlib.Core.Path.{_≡_};
-ghost use lib.ListN.{getD, length};
-ghost use Rattle.records.specs.declared.command.Command.{Command};
-ghost use Rattle.records.specs.declared.command.Command.the-variants.{BindSampler};
+ghost use lib.ListN.{getD};
+ghost use Rattle.slots.specs.Place.{Stands};
 ghost use Rattle.bindings.specs.Units.{unitAt, samplerAt, numberAt, resolve as resolveOf, takesOne, dirtyUnits, samplerCommands};
 use records::command::Command;
 use records::command::OptionU32;
@@ -69,8 +67,7 @@ fn resolve(b: BindState, number: OptionU32) -> OptionU32
 
 // Command number k of the units of a mask.
 pub fn sampler_command(b: BindState, m: u32, k: u32) -> Command
-    requires { ⌜ k < length (samplerCommands b m) ⌝ }
-    ensures { λ r. ⌜ ((d : Command) → r ≡ getD (samplerCommands b m) k d) ⌝ }
+    ensures { λ r. ⌜ Stands r k (samplerCommands b m) ⌝ }
 {
     let u = mask::nth(m, k);
     let number = number_at(b, u);

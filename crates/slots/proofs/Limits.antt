@@ -4,11 +4,6 @@ use mathlib.Core.Bool.{Bool, true, false, not, _&&_, _||_}
 use mathlib.Core.Path.{_≡_, refl}
 use native.Mathlib.Omega.{arith}
 use lib.Dec.{ltb}
-use Rattle.records.specs.declared.command.AttributeDesc.{AttributeDesc}
-use Rattle.records.specs.declared.state.VertexSlot.{VertexSlot}
-use Rattle.records.specs.declared.state.VertexState.{VertexState}
-use Rattle.slots.specs.Vertex.{slotAt}
-use Rattle.slots.specs.Prepare.{slotOffset, attributeOffset, attributeOver}
 use borrow.Author.Tests.{ltb-true, ltb-false, lt-ltb, le-ltb}
 
 other-way : (x y p q : ℕ) → (p < q → y ≤ x) → (q ≤ p → x < y) → ltb x y ≡ not (ltb p q)
@@ -49,8 +44,3 @@ fits product sum n e = go (ltb product (2 ^ 32)) refl (ltb sum n) refl e
     go true p true q e = record { product-fits = ltb-true product (2 ^ 32) p; sum-fits = ltb-true sum n q }
     go true p false q e = bad e
     go false p u q e = bad e
-
-pub attribute-fits : (v : VertexState) (w : ℕ) (a : AttributeDesc) (slot : VertexSlot) (more : ℕ)
-    → slot ≡ slotAt v (a .«buffer_index») → more ≡ slotOffset v w (a .«buffer_index») → attributeOver v w a ≡ false
-    → a .offset + slot .offset + more < 2 ^ 32
-attribute-fits v w a slot more s m e = rw (s, m) (fits (slotOffset v w (a .«buffer_index»)) (attributeOffset v w a) (2 ^ 32) e .sum-fits)

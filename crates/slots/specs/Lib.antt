@@ -2,3 +2,4 @@ pub mod Vertex
 pub mod Prepare
 pub mod Sent
 pub mod Sweep
+pub mod Place

@@ -1,14 +1,14 @@
 // The commands that a draw records before its own, by place.
-ghost use Prim.Native.Nat.{_<_};
+ghost use Prim.Native.Nat.{_+_, _^_};
 ghost use mathlib.Core.Path.{_≡_};
 ghost use mathlib.Core.Bool.{false};
-ghost use lib.ListN.{getD, length};
+ghost use lib.ListN.{getD};
 ghost use Rattle.records.specs.Start.{startAttribute};
-ghost use Rattle.records.specs.declared.command.Command.{Command};
 ghost use Rattle.slots.specs.Vertex.{attributesOf};
 ghost use Rattle.slots.specs.Prepare.{bufferCommand, attributeCommand, slotOver, attributeOver, slotDesc, prepared, preparedOver};
+ghost use Rattle.slots.specs.Place.{within, Stands};
 ghost use Rattle.slots.specs.Sent.{preparedPlaces};
-use crate::prepare::within;
+use crate::prepare::within as at_most;
 use crate::slot_at;
 use crate::slot_offset;
 use crate::step_of;
@@ -32,9 +32,32 @@ fn slot_desc(v: VertexState, i: u32) -> VertexBufferDesc
     }
 }
 
+// The sum, or 0 where it leaves its field.
+fn sum_of(offset: u64, more: u64) -> u64
+    ensures { λ r. ⌜ r ≡ within (2 ^ 64) (offset + more) ⌝ }
+{
+    if 18446744073709551615 - offset < more {
+        0
+    } else {
+        offset + more
+    }
+}
+
+fn low_sum(own: u32, offset: u64, more: u64) -> u32
+    ensures { λ r. ⌜ r ≡ within (2 ^ 32) (own + offset + more) ⌝ }
+{
+    if 4294967295 < offset {
+        return 0;
+    }
+    if 4294967295 < more {
+        return 0;
+    }
+    let sum = (own as u64) + offset + more;
+    if sum < 4294967296 { sum as u32 } else { 0 }
+}
+
 fn buffer_command(v: VertexState, w: u32, i: u32) -> Command
-    requires { ⌜ slotOver v w i ≡ false ⌝ }
-    ensures { λ r. ⌜ r ≡ bufferCommand v w i ⌝ }
+    ensures { λ r. ⌜ (slotOver v w i ≡ false → r ≡ bufferCommand v w i) ⌝ }
 {
     let slot = slot_at(v, i);
     let more = slot_offset(v, w, i);
@@ -43,15 +66,14 @@ fn buffer_command(v: VertexState, w: u32, i: u32) -> Command
         index: i,
         buffer: BufferBinding {
             raw: slot.raw,
-            offset: slot.offset + more,
+            offset: sum_of(slot.offset, more),
         },
         buffer_desc: desc,
     }
 }
 
 fn attribute_command(v: VertexState, w: u32, a: AttributeDesc) -> Command
-    requires { ⌜ attributeOver v w a ≡ false ⌝ }
-    ensures { λ r. ⌜ r ≡ attributeCommand v w a ⌝ }
+    ensures { λ r. ⌜ (attributeOver v w a ≡ false → r ≡ attributeCommand v w a) ⌝ }
 {
     let slot = slot_at(v, a.buffer_index);
     let more = slot_offset(v, w, a.buffer_index);
@@ -62,7 +84,7 @@ fn attribute_command(v: VertexState, w: u32, a: AttributeDesc) -> Command
         buffer_desc: desc,
         attribute_desc: AttributeDesc {
             location: a.location,
-            offset: a.offset + slot.offset as u32 + more as u32,
+            offset: low_sum(a.offset, slot.offset, more),
             buffer_index: a.buffer_index,
             format_desc,
         },
@@ -73,7 +95,7 @@ fn attribute_at(v: VertexState, i: u32) -> AttributeDesc
     ensures { λ r. ⌜ r ≡ getD (attributesOf v) i startAttribute ⌝ }
 {
     let at = i as usize;
-    let n = within(v.attribute_count, MAX_VERTEX_ATTRIBUTES);
+    let n = at_most(v.attribute_count, MAX_VERTEX_ATTRIBUTES);
     if at < n {
         v.attributes[at]
     } else {
@@ -83,8 +105,7 @@ fn attribute_at(v: VertexState, i: u32) -> AttributeDesc
 
 // Command number k of a draw's, by the places that `prepare` gives.
 pub fn command_at(caps: PrivateCapabilities, v: VertexState, w: u32, places: u32, k: u32) -> Command
-    requires { ⌜ (places ≡ preparedPlaces caps v w) × (preparedOver caps v w ≡ false) × (k < length (prepared caps v w)) ⌝ }
-    ensures { λ r. ⌜ ((d : Command) → r ≡ getD (prepared caps v w) k d) ⌝ }
+    ensures { λ r. ⌜ (places ≡ preparedPlaces caps v w → preparedOver caps v w ≡ false → Stands r k (prepared caps v w)) ⌝ }
 {
     let i = mask::nth(places, k);
     if caps.vertex_buffer_layout {

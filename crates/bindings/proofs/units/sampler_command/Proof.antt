@@ -22,10 +22,10 @@ resolve-requires c κs = search needs
 returns : tie.Need-returns
 unfolding samplerCommands
 returns c =
-    λ d.
+    λ k d.
     let st = c .before .before .before in
     let b = st .args .b in
-    let h = subst (λ (n : ℕ). st .args .k < n) (length-map (places (st .args .m)) (λ (u : ℕ). BindSampler u (resolve b (numberAt b u)))) (st .pre) in
+    let h = subst (λ (n : ℕ). st .args .k < n) (length-map (places (st .args .m)) (λ (u : ℕ). BindSampler u (resolve b (numberAt b u)))) k in
     rw (c .resolve .ensures, c .before .number-at .ensures, c .before .before .nth .ensures)
     (sym (map-at (λ (u : ℕ). BindSampler u (resolve b (numberAt b u))) (places (st .args .m)) (st .args .k) 32 d h))
 
