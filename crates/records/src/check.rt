@@ -31,7 +31,7 @@ pub struct Rooms {
 }
 
 // The count, or the array's length where the count is larger.
-fn within(count: usize, length: usize) -> usize
+pub fn within(count: usize, length: usize) -> usize
     ensures { λ r. ⌜ r ≡ min count length ⌝ }
 {
     if count < length { count } else { length }

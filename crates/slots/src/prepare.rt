@@ -1,7 +1,7 @@
 // What a draw records before its own command: how many commands, whether a sum leaves its field,
 // and which slots lose their dirty bit.
 ghost use mathlib.Core.Path.{_≡_};
-ghost use Prim.Native.Nat.{_<_, min};
+ghost use Prim.Native.Nat.{_<_};
 ghost use lib.ListN.{length};
 ghost use Rattle.mask.specs.Mask.{maskOf, places};
 ghost use Rattle.records.specs.Check.{some?};
@@ -13,6 +13,7 @@ use crate::attribute_over;
 use crate::rebound;
 use crate::slot_over;
 use crate::woken;
+use records::check::within;
 use records::command::AttributeDesc;
 use records::limits::MAX_VERTEX_ATTRIBUTES;
 use records::pipeline::PrivateCapabilities;
@@ -54,12 +55,6 @@ fn sweep_attribute(m: u32, v: VertexState, w: u32, s: Sweep, a: AttributeDesc) -
     } else {
         s
     }
-}
-
-pub fn within(count: usize, length: usize) -> usize
-    ensures { λ r. ⌜ r ≡ min count length ⌝ }
-{
-    if count < length { count } else { length }
 }
 
 fn sweep_attributes(v: VertexState, w: u32) -> Sweep
