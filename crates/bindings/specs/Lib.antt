@@ -2,3 +2,4 @@ pub mod Units
 pub mod Group
 pub mod Immediates
 pub mod Overlap
+pub mod Witness

@@ -6,3 +6,4 @@ pub mod Parts
 pub mod Meaning
 pub mod Step
 pub mod Did
+pub mod Witness

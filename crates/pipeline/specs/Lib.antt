@@ -1,3 +1,4 @@
 pub mod Inner
 pub mod Vertex
 pub mod Fixed
+pub mod Witness

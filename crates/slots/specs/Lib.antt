@@ -3,3 +3,4 @@ pub mod Prepare
 pub mod Sent
 pub mod Sweep
 pub mod Place
+pub mod Witness
