@@ -7,3 +7,4 @@ pub mod Meaning
 pub mod Step
 pub mod Did
 pub mod Witness
+pub mod Judge

@@ -1,1 +1,2 @@
 // The 31 recording calls.
+pub mod judge;

@@ -1,0 +1,81 @@
+-- The verdict on a call, and what follows where it is carried through. Assumes nothing.
+use Prim.Native.Nat.{ℕ, _≤_}
+use mathlib.Core.Bool.{Bool, true, false, cond, _||_}
+use mathlib.Core.Path.{_≡_, refl, sym, ap, _∙_}
+use native.Mathlib.Omega.{arith}
+use lib.Dec.{ltb}
+use borrow.Author.Tests.{ltb-false}
+use Rattle.records.specs.Outcome.{accepted, smallest, either}
+use Rattle.records.specs.Check.{overRoom, stateConditions}
+use Rattle.records.specs.declared.check.Rooms.{Rooms}
+use Rattle.records.specs.declared.outcome.Conditions.{Conditions}
+use Rattle.records.specs.declared.outcome.Outcome.{Outcome}
+use Rattle.records.specs.declared.outcome.Outcome.the-variants.{Done, NoRoom}
+use Rattle.records.specs.declared.state.Phase.{Phase}
+use Rattle.records.specs.declared.state.Progress.{Progress}
+use Rattle.records.specs.declared.state.State.{State}
+use Rattle.calls.specs.declared.judge.Counts.{Counts}
+use Rattle.calls.specs.Judge.{grown, asked, judged, taken}
+
+pub bad : {X : Type 0} → false ≡ true → X
+bad e = let z : _≡_ {A = ℕ} 0 1 = cc in absurd (omega arith)
+
+pub neither : (t u : Bool) → t || u ≡ false → (t ≡ false) × (u ≡ false)
+neither true u e = bad (sym e)
+neither false u e = (refl, e)
+
+module _ where
+  last : (r : Bool) → accepted (cond r NoRoom Done) ≡ true → r ≡ false
+  last true e = bad e
+  last false e = refl
+
+  step : (t : Bool) (o next : Outcome) → accepted o ≡ false → accepted (cond t o next) ≡ true → accepted next ≡ true
+  step true o next n e = bad (sym n ∙ e)
+  step false o next n e = e
+
+  -- no condition of a call that is carried through holds, the room's neither
+  pub has-room : (c : Conditions) → accepted (smallest c) ≡ true → c .room ≡ false
+  unfolding smallest
+  has-room c e =
+      last (c .room) (step (c .sum) _ _ refl (step (c .kind) _ _ refl (step (c .absent) _ _ refl (step (c .range) _ _ refl (step (c .many) _ _ refl (step (c .phase) _ _ refl e))))))
+
+-- the counts within the limits and within the runs
+pub record Within (p : Progress) (r : Rooms) : Type 0 where
+  pub commands-limit : p .commands ≤ 4096
+  pub bytes-limit : p .bytes ≤ 65536
+  pub queries-limit : p .queries ≤ 1024
+  pub commands-fit : p .commands ≤ r .commands
+  pub bytes-fit : p .bytes ≤ r .bytes
+  pub queries-fit : p .queries ≤ r .queries
+
+pub within : (p : Progress) (r : Rooms) → overRoom p r ≡ false → Within p r
+within p r e =
+    let a = neither (ltb 4096 (p .commands)) _ e in
+    let b = neither (ltb 65536 (p .bytes)) _ (a .1) in
+    let c = neither (ltb 1024 (p .queries)) _ (b .1) in
+    let d = neither (ltb (r .commands) (p .commands)) _ (c .1) in
+    let f = neither (ltb (r .bytes) (p .bytes)) (ltb (r .queries) (p .queries)) (d .1) in
+    record {
+      commands-limit = ltb-false _ _ (a .0);
+      bytes-limit = ltb-false _ _ (b .0);
+      queries-limit = ltb-false _ _ (c .0);
+      commands-fit = ltb-false _ _ (d .0);
+      bytes-fit = ltb-false _ _ (f .0);
+      queries-fit = ltb-false _ _ (f .1);
+    }
+
+module _ (rooms : Rooms) (s : State) (c : Conditions) (phase : Phase) (more : Counts) where
+  pub fitting : accepted (judged rooms s c phase more) ≡ true → Within (grown (s .progress) phase more) rooms
+  fitting e = within (grown (s .progress) phase more) rooms (neither (c .room) _ (neither (stateConditions s rooms .room) _ (has-room _ e) .1) .1)
+
+  -- the verdict, and the test of it
+  pub said : {o : Outcome} {t b : Bool} → o ≡ judged rooms s c phase more → t ≡ accepted o → t ≡ b → accepted (judged rooms s c phase more) ≡ b
+  said e a h = sym (ap accepted e) ∙ sym a ∙ h
+
+  pub carried : {o : Outcome} → o ≡ judged rooms s c phase more → accepted (judged rooms s c phase more) ≡ true
+      → (o ≡ judged rooms s c phase more) × (true ≡ accepted (judged rooms s c phase more)) × (grown (s .progress) phase more ≡ taken (judged rooms s c phase more) (grown (s .progress) phase more) (s .progress))
+  carried e a = (e, sym a, rw a)
+
+  pub refused : {o : Outcome} → o ≡ judged rooms s c phase more → accepted (judged rooms s c phase more) ≡ false
+      → (o ≡ judged rooms s c phase more) × (false ≡ accepted (judged rooms s c phase more)) × (s .progress ≡ taken (judged rooms s c phase more) (grown (s .progress) phase more) (s .progress))
+  refused e a = (e, sym a, rw a)

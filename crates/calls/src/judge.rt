@@ -1,0 +1,114 @@
+// Whether a call is carried through: the smallest number whose condition holds of the call or of
+// the state that it is handed, and the progress after it. The contracts cite specs/Judge.antt.
+ghost use Prim.Native.Nat.{_+_};
+ghost use mathlib.Core.Path.{_≡_};
+ghost use lib.Dec.{ltb};
+ghost use Rattle.records.specs.Check.{overRoom};
+ghost use Rattle.records.specs.Outcome.{accepted as acceptedOf};
+ghost use Rattle.calls.specs.Judge.{grown, judged, taken};
+use records::check::state_conditions;
+use records::check::Rooms;
+use records::limits::MAX_BYTES;
+use records::limits::MAX_COMMANDS;
+use records::limits::MAX_QUERIES;
+use records::outcome::either;
+use records::outcome::outcome_of;
+use records::outcome::Conditions;
+use records::outcome::Outcome;
+use records::state::Phase;
+use records::state::Progress;
+use records::state::State;
+
+// How much a call appends to each run.
+pub struct Counts {
+    pub commands: usize,
+    pub bytes: usize,
+    pub queries: usize,
+}
+
+// More than a limit, without a sum that leaves its field.
+fn exceeds(limit: usize, used: usize, more: usize) -> bool
+    ensures { λ r. ⌜ r ≡ ltb limit (used + more) ⌝ }
+{
+    if limit < used {
+        return true;
+    }
+    limit - used < more
+}
+
+fn over_after(p: Progress, phase: Phase, more: Counts, r: Rooms) -> bool
+    ensures { λ b. ⌜ b ≡ overRoom (grown p phase more) r ⌝ }
+{
+    exceeds(MAX_COMMANDS, p.commands, more.commands)
+        | (exceeds(MAX_BYTES, p.bytes, more.bytes)
+            | (exceeds(MAX_QUERIES, p.queries, more.queries)
+                | (exceeds(r.commands, p.commands, more.commands)
+                    | (exceeds(r.bytes, p.bytes, more.bytes)
+                        | exceeds(r.queries, p.queries, more.queries)))))
+}
+
+pub fn accepted(outcome: Outcome) -> bool
+    ensures { λ r. ⌜ r ≡ acceptedOf outcome ⌝ }
+{
+    match outcome {
+        Outcome::Done => true,
+        Outcome::WrongPhase => false,
+        Outcome::TooMany => false,
+        Outcome::OutOfRange => false,
+        Outcome::Absent => false,
+        Outcome::WrongKind => false,
+        Outcome::Overflow => false,
+        Outcome::NoRoom => false,
+    }
+}
+
+// The smallest number whose condition holds, of a call with conditions `c` that ends in `phase` and
+// appends `more`.
+fn outcome_for(rooms: Rooms, s: State, c: Conditions, phase: Phase, more: Counts) -> Outcome
+    ensures { λ r. ⌜ r ≡ judged rooms s c phase more ⌝ }
+{
+    let p = s.progress;
+    let held = state_conditions(s, rooms);
+    let over = over_after(p, phase, more, rooms);
+    let call = Conditions {
+        phase: c.phase,
+        many: c.many,
+        range: c.range,
+        absent: c.absent,
+        kind: c.kind,
+        sum: c.sum,
+        room: c.room | over,
+    };
+    let all = either(held, call);
+    outcome_of(all)
+}
+
+pub struct Verdict {
+    pub outcome: Outcome,
+    pub ok: bool,
+    pub progress: Progress,
+}
+
+pub fn judge(rooms: Rooms, s: State, c: Conditions, phase: Phase, more: Counts) -> Verdict
+    ensures { λ r. ⌜ (r .outcome ≡ judged rooms s c phase more) × (r .ok ≡ acceptedOf (judged rooms s c phase more)) × (r .progress ≡ taken (judged rooms s c phase more) (grown (s .progress) phase more) (s .progress)) ⌝ }
+{
+    let p = s.progress;
+    let outcome = outcome_for(rooms, s, c, phase, more);
+    if accepted(outcome) {
+        return Verdict {
+            outcome,
+            ok: true,
+            progress: Progress {
+                phase,
+                commands: p.commands + more.commands,
+                bytes: p.bytes + more.bytes,
+                queries: p.queries + more.queries,
+            },
+        };
+    }
+    Verdict {
+        outcome,
+        ok: false,
+        progress: p,
+    }
+}

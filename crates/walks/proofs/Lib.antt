@@ -1,0 +1,6 @@
+pub mod Args
+pub mod Calls
+pub mod Committing
+pub mod Filled
+pub mod Filling
+pub mod Listing
