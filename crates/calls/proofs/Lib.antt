@@ -1,2 +1,4 @@
 pub mod Judged
 pub mod Limit
+pub mod Data
+pub mod Ones

@@ -8,3 +8,5 @@ pub mod Step
 pub mod Did
 pub mod Witness
 pub mod Judge
+pub mod Planned
+pub mod One

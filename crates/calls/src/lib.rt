@@ -1,2 +1,4 @@
 // The 31 recording calls.
 pub mod judge;
+mod one;
+mod phase;

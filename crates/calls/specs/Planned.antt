@@ -1,0 +1,52 @@
+-- What a plan has to say of a call that is handed the command list alone: the answer, and where its commands go. Definitions only.
+use Prim.Native.Nat.{ℕ, _+_, _<_, _≤_}
+use mathlib.Core.Path.{_≡_}
+use mathlib.Core.Bool.{Bool, cond}
+use mathlib.Core.List.{List, [], _∷_}
+use lib.ListN.{length, getD}
+use Rattle.records.specs.Outcome.{accepted}
+use Rattle.records.specs.declared.check.Rooms.{Rooms}
+use Rattle.records.specs.declared.command.Command.{Command}
+use Rattle.records.specs.declared.command.Command.the-variants.{PopDebugGroup}
+use Rattle.records.specs.declared.outcome.Conditions.{Conditions}
+use Rattle.records.specs.declared.outcome.Outcome.{Outcome}
+use Rattle.records.specs.declared.state.State.{State}
+use Rattle.calls.specs.declared.judge.Counts.{Counts}
+use Rattle.calls.specs.Meaning.{Meaning}
+use Rattle.calls.specs.Parts.{withProgress}
+use Rattle.calls.specs.Judge.{grown, judged, taken}
+use Rattle.calls.specs.Step.{outcomeOf, progressAfter}
+
+-- a run that a call is not handed has room up to its limit
+abbrev pub listRooms : ℕ → Rooms
+listRooms room = record { commands = room; bytes = 65536; queries = 1024 }
+
+-- so many commands, no bytes, no queries
+abbrev pub commandsOnly : ℕ → Counts
+commandsOnly n = record { commands = n; bytes = 0; queries = 0 }
+
+-- the outcome of a call that stays in its phase and appends n commands
+abbrev pub listed : ℕ → State → Conditions → ℕ → Outcome
+listed room s c n = judged (listRooms room) s c (s .progress .phase) (commandsOnly n)
+
+-- and the state that it leaves, where it makes `after` of the state, the progress aside
+abbrev pub moved : State → ℕ → State → State
+moved s n after = withProgress (grown (s .progress) (s .progress .phase) (commandsOnly n)) after
+
+-- n commands, command i being `at-place i`, go to the place `at`: those of cs where the call is carried through, none where it is not
+pub record Laid (room : ℕ) (s : State) (o : Outcome) (cs : List Command) (at n : ℕ) (at-place : ℕ → Command) : Type 0 where
+  pub count : n ≡ length (taken o cs [])
+  pub fits : at + n ≤ room
+  pub behind : 0 < n → at ≡ s .progress .commands
+  pub each : (i : ℕ) → i < n → at-place i ≡ getD (taken o cs []) i PopDebugGroup
+
+-- a plan's outcome and next state
+abbrev pub Answered : State → Outcome → State → Outcome → State → Type 0
+Answered s o after outcome next = (outcome ≡ o) × (next ≡ taken o after s)
+
+-- the same of a meaning
+abbrev pub outcomeIn : ℕ → State → Meaning → Outcome
+outcomeIn room s m = outcomeOf (listRooms room) s m
+
+abbrev pub stateIn : Meaning → State
+stateIn m = withProgress (progressAfter m) (m .after)
