@@ -18,6 +18,8 @@ use Rattle.records.proofs.command.Record as R
 use Rattle.records.proofs.command.Record.Laws as R′
 use Rattle.records.proofs.state.State as S
 use Rattle.records.proofs.state.State.Laws as S′
+use Rattle.records.proofs.pipeline.PrivateCapabilities as B
+use Rattle.records.proofs.pipeline.PrivateCapabilities.Laws as B′
 use Rattle.records.proofs.state.Answer as A
 use Rattle.records.proofs.state.Answer.Laws as A′
 
@@ -37,6 +39,9 @@ SpellsE Δ T = ED.row T .mir ≡ textE Δ T ∷ []
 
 abbrev pub state : (Δ : Table) → Spells Δ S.the-type → Datum
 state Δ e = of-struct S.the-type S′.the-laws S′.the-plain (text Δ S.the-type) e
+
+abbrev pub board : (Δ : Table) → Spells Δ B.the-type → Datum
+board Δ e = of-struct B.the-type B′.the-laws B′.the-plain (text Δ B.the-type) e
 
 abbrev pub answer : (Δ : Table) → Spells Δ A.the-type → Datum
 answer Δ e = of-struct A.the-type A′.the-laws A′.the-plain (text Δ A.the-type) e

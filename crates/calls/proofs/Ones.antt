@@ -1,5 +1,10 @@
 -- Plans of one command, as the walks have them, and as a function's table spells their types. Assumes nothing.
-use Prim.Native.Nat.{_<_}
+use Prim.Native.Nat.{ℕ, _+_, _<_, _≤_}
+use mathlib.Core.Bool.{Bool, true, false, cond}
+use mathlib.Core.List.{List, [], _∷_}
+use mathlib.Core.Path.{_≡_, refl}
+use native.Mathlib.Omega.{arith}
+use lib.ListN.{length}
 use mir.Table.{Table}
 use Rattle.walks.proofs.Args.{Datum, of-struct}
 use Rattle.walks.proofs.Filling.{Kinds}
@@ -7,7 +12,23 @@ use Rattle.walks.proofs.Committing.{Plans}
 use Rattle.records.proofs.command.Command as C
 use Rattle.records.proofs.command.Record as R
 use Rattle.records.proofs.state.Answer as A
-use Rattle.calls.specs.One.{oneAnswer}
+use Rattle.walks.specs.Fill.{filled}
+use Rattle.records.specs.Outcome.{accepted}
+use Rattle.records.specs.declared.check.Rooms.{Rooms}
+use Rattle.records.specs.declared.command.Command.{Command}
+use Rattle.records.specs.declared.command.Record.{Record}
+use Rattle.records.specs.declared.outcome.Outcome.{Outcome}
+use Rattle.records.specs.declared.pipeline.PrivateCapabilities.{PrivateCapabilities}
+use Rattle.records.specs.declared.state.Answer.{Answer}
+use Rattle.records.specs.declared.state.State.{State}
+use Rattle.calls.specs.declared.one.OnePlan.{OnePlan}
+use Rattle.calls.specs.Call.{Call}
+use Rattle.calls.specs.Did.{Lists, recordOf}
+use Rattle.calls.specs.Judge.{taken}
+use Rattle.calls.specs.One.{OneFor, OneOf, oneAnswer}
+use Rattle.calls.specs.Planned.{listRooms}
+use Rattle.calls.specs.Step.{meaning}
+use Rattle.calls.proofs.Listed.{lists-done}
 use Rattle.calls.proofs.Data.{text, Spells, SpellsE, kindsOf, answer}
 use Rattle.calls.proofs.one.One as B
 use Rattle.calls.proofs.one.One.Laws as B′
@@ -35,3 +56,19 @@ ones Δ e p a =
       Allowed = λ b i. i < 1;
       commandAt = λ b i. b .command;
     }
+
+few : (t : Bool) (cs : List Command) → length cs ≤ 1 → length (cond t cs []) ≤ 1
+few true cs h = h
+few false cs h = omega arith
+
+-- a plan that is right fits
+pub one-fits : (room : ℕ) (s : State) (o : Outcome) (after : State) (cs : List Command) (p : OnePlan) → length cs ≤ 1 → OneFor room s o after cs p
+    → (p .batch .at + p .batch .n ≤ room) × ((i : ℕ) → i < p .batch .n → i < 1)
+one-fits room s o after cs p h r = (r .1 .fits, λ i l. let k = few (accepted o) cs h in let m = r .1 .count in omega arith)
+
+-- and written it is the call
+pub one-done : (caps : PrivateCapabilities) (s : State) (c : Call) → ((r : Rooms) → meaning caps s c .handed r ≡ listRooms (r .commands)) → meaning caps s c .bytes ≡ [] → meaning caps s c .queries ≡ []
+    → (run run′ : List Record) (a : Answer) (p : OnePlan) → OneOf (length run) s (meaning caps s c) p
+    → (a ≡ oneAnswer p) × (run′ ≡ filled (λ i. recordOf (p .batch .command)) run (p .batch .at) (p .batch .n)) → Lists caps s c run a run′
+one-done caps s c alone no-bytes no-queries run run′ a p h e =
+    lists-done caps s c alone no-bytes no-queries run run′ a (p .outcome) (p .next) (p .batch .at) (p .batch .n) (λ i. p .batch .command) (h .0) (h .1) (e .0) (e .1)

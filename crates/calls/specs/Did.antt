@@ -42,3 +42,8 @@ pub record Did (caps : PrivateCapabilities) (s : State) (r : Runs) (c : Call) (a
   pub outcome : a .outcome ≡ step caps (roomsOf r) s c .outcome
   pub state : a .state ≡ step caps (roomsOf r) s c .state
   pub runs : r′ ≡ runsAfter s (step caps (roomsOf r) s c) r
+
+-- the same of a call that is handed the command list alone, whatever the other runs are
+abbrev pub Lists : PrivateCapabilities → State → Call → List Record → Answer → List Record → Type 0
+Lists caps s c l a l′ =
+    (bytes queries : List ℕ) → Did caps s (record { commands = l; bytes = bytes; queries = queries }) c a (record { commands = l′; bytes = bytes; queries = queries })

@@ -5,16 +5,18 @@ ghost use mathlib.Core.Path.{_≡_};
 ghost use lib.Dec.{ltb};
 ghost use Rattle.records.specs.Check.{overRoom};
 ghost use Rattle.records.specs.Outcome.{accepted as acceptedOf};
+ghost use mathlib.Core.Bool.{cond};
 ghost use Rattle.calls.specs.Judge.{grown, judged, taken};
-use records::check::state_conditions;
+ghost use Rattle.calls.specs.Planned.{listRooms, commandsOnly};
 use records::check::Rooms;
+use records::check::state_conditions;
 use records::limits::MAX_BYTES;
 use records::limits::MAX_COMMANDS;
 use records::limits::MAX_QUERIES;
-use records::outcome::either;
-use records::outcome::outcome_of;
 use records::outcome::Conditions;
 use records::outcome::Outcome;
+use records::outcome::either;
+use records::outcome::outcome_of;
 use records::state::Phase;
 use records::state::Progress;
 use records::state::State;
@@ -110,5 +112,42 @@ pub fn judge(rooms: Rooms, s: State, c: Conditions, phase: Phase, more: Counts) 
         outcome,
         ok: false,
         progress: p,
+    }
+}
+
+// The rooms of a call that is handed the command list alone.
+pub fn list_rooms(room: usize) -> Rooms
+    ensures { λ r. ⌜ r ≡ listRooms room ⌝ }
+{
+    Rooms {
+        commands: room,
+        bytes: MAX_BYTES,
+        queries: MAX_QUERIES,
+    }
+}
+
+pub fn commands_only(n: usize) -> Counts
+    ensures { λ r. ⌜ r ≡ commandsOnly n ⌝ }
+{
+    Counts {
+        commands: n,
+        bytes: 0,
+        queries: 0,
+    }
+}
+
+// Where the commands of a call go, and how many: none of a call that is turned away.
+pub struct Spot {
+    pub at: usize,
+    pub n: usize,
+}
+
+pub fn spot_of(ok: bool, at: usize, n: usize) -> Spot
+    ensures { λ r. ⌜ (r .at ≡ cond ok at 0) × (r .n ≡ cond ok n 0) ⌝ }
+{
+    if ok {
+        Spot { at, n }
+    } else {
+        Spot { at: 0, n: 0 }
     }
 }

@@ -1,4 +1,6 @@
 // The 31 recording calls.
 pub mod judge;
 mod one;
+mod parts;
 mod phase;
+pub mod settings;

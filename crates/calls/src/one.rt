@@ -3,17 +3,18 @@
 ghost use Prim.Native.Nat.{ℕ, _+_, _<_, _≤_};
 ghost use mathlib.Core.Path.{_≡_};
 ghost use lib.ListN.{length};
+ghost use Rattle.records.specs.declared.command.Command.{Command};
 ghost use Rattle.walks.specs.Fill.{filled};
 ghost use Rattle.calls.specs.Did.{recordOf};
 ghost use Rattle.calls.specs.Planned.{listed, moved};
 ghost use Rattle.calls.specs.One.{OneFor, oneAnswer, only};
+use crate::judge::commands_only;
 use crate::judge::judge;
-use crate::judge::Counts;
-use records::check::Rooms;
+use crate::judge::list_rooms;
+use crate::judge::spot_of;
+use crate::parts::with_progress;
 use records::command::Command;
 use records::command::Record;
-use records::limits::MAX_BYTES;
-use records::limits::MAX_QUERIES;
 use records::outcome::Conditions;
 use records::outcome::Outcome;
 use records::state::Answer;
@@ -86,4 +87,37 @@ pub fn commit_one(list: &mut [Record], plan: OnePlan) -> Answer
     let n = one_count(batch);
     fill_one(list, at, n, batch);
     one_answer(plan)
+}
+
+// One command, or none.
+fn count_of(some: bool) -> usize
+    ensures { λ r. ⌜ ((c : Command) → r ≡ length (only some c)) ⌝ }
+{
+    if some { 1 } else { 0 }
+}
+
+// The plan of a call that stays in its phase, leaves the state as it is, and records the command
+// where `some` says so.
+pub fn plan_one(room: usize, s: State, c: Conditions, some: bool, command: Command) -> OnePlan
+    ensures { λ r. ⌜ OneFor room s (listed room s c (length (only some command))) (moved s (length (only some command)) s) (only some command) r ⌝ }
+{
+    let p = s.progress;
+    let n = count_of(some);
+    let rooms = list_rooms(room);
+    let more = commands_only(n);
+    let phase = p.phase;
+    let v = judge(rooms, s, c, phase, more);
+    let place = spot_of(v.ok, p.commands, n);
+    let outcome = v.outcome;
+    let progress = v.progress;
+    let next = with_progress(s, progress);
+    OnePlan {
+        next,
+        batch: One {
+            at: place.at,
+            n: place.n,
+            command,
+        },
+        outcome,
+    }
 }

@@ -44,7 +44,6 @@ use Rattle.walks.proofs.Calls.{sig, end, calls-plain, calls-list}
 use Rattle.walks.proofs.Filling as filling
 use Rattle.walks.proofs.Filling.{Kinds}
 
-
 -- what a plan says: its batch, and the answer; a batch says where its commands go, how many they are, which they are, and which may be asked for. `kinds` is of the batch
 pub record Plans : Type 2 where
   pub kinds : Kinds
@@ -190,8 +189,10 @@ module _ (𝓟 : Plans) (batch-of at-of n-of fill answer-of : Name) {M : Type 1}
           -- [the token; the list; _8; …; _7; …; .. ; room for _0; …]
           calls-list ! (fmOf 𝓤 H (W .laws) 𝓣) (R 𝓟) (plain (λ _. usize) ∷ plain (λ _. usize) ∷ plain (λ _. row (Bt 𝓟)) ∷ []) (filling.signature (𝓟 .kinds) .result) (yes, (yes, (yes, tt))) (filling.clauses (𝓟 .kinds) (𝓟 .Allowed) (𝓟 .commandAt) 𝓤) known-fill κ q
           (uint-makes 𝓤 H A W w64, (uint-makes 𝓤 H A W w64, (Bt 𝓟 .makes 𝓤 H A W, tt))) x s (i, (n, (bt, tt))) (u ∷ [], (u′ ∷ [], (ub ∷ [], tt))) (is-i, (is-n, (is-b, tt))) tt
-          (factI 𝓤 _ (emp 𝓤) (subst (λ (k : ℕ). k + n ≤ length ys) (sym (e-i ∙ ap (𝓟 .at) e-b)) (subst (λ (k : ℕ). 𝓟 .at (𝓟 .batch p) + k ≤ length ys) (sym (e-n ∙ ap (𝓟 .n) e-b)) (fits .0)),
-          may bt n e-b e-n))
+          (factI 𝓤 _ (emp 𝓤) (
+            subst (λ (k : ℕ). k + n ≤ length ys) (sym (e-i ∙ ap (𝓟 .at) e-b)) (subst (λ (k : ℕ). 𝓟 .at (𝓟 .batch p) + k ≤ length ys) (sym (e-n ∙ ap (𝓟 .n) e-b)) (fits .0)),
+            may bt n e-b e-n,
+          ))
           (λ _ zs. zs ≡ filled (λ j. 𝓟 .kinds .wrap (𝓟 .commandAt bt j)) ys i n) (λ r ws. id⊢ 𝓤 _)
           (and-then ! (load ! (from ! (stop !)) (look ! 1 refl)) (and-then ! (load ! (from ! (stop !)) (look ! 9 refl)) (and-then ! (load ! (from ! (stop !)) (look ! 7 refl)) (and-then ! (load ! (from ! (stop !)) (look ! 11 refl)) (no-more !))))) (λ r w zs is l e.
           land ! (from ! (stop !)) (init ! 6 refl (nothing-lawful 𝓤 H A W .typed r _ is .0)) $

@@ -12,19 +12,19 @@ accepted-requires : tie.Need-accepted-requires
 accepted-requires c κs = search needs
 
 add-t9 : tie.Need-add-t9
-add-t9 c = 
+add-t9 c =
     let w = fitting (c .before .before .before .before .before .before .args .rooms) (c .before .before .before .before .before .before .args .s) (c .before .before .before .before .before .before .args .c) (c .before .before .before .before .before .before .args .phase) (c .before .before .before .before .before .before .args .more) (said (c .before .before .before .before .before .before .args .rooms) (c .before .before .before .before .before .before .args .s) (c .before .before .before .before .before .before .args .c) (c .before .before .before .before .before .before .args .phase) (c .before .before .before .before .before .before .args .more) (c .before .before .before .before .outcome-for .ensures) (c .before .before .before .accepted .ensures) (c .before .before .if1 .taken)) in
     let l = w .commands-limit in
     omega arith
 
 add-t10 : tie.Need-add-t10
-add-t10 c = 
+add-t10 c =
     let w = fitting (c .before .before .before .before .before .before .before .before .args .rooms) (c .before .before .before .before .before .before .before .before .args .s) (c .before .before .before .before .before .before .before .before .args .c) (c .before .before .before .before .before .before .before .before .args .phase) (c .before .before .before .before .before .before .before .before .args .more) (said (c .before .before .before .before .before .before .before .before .args .rooms) (c .before .before .before .before .before .before .before .before .args .s) (c .before .before .before .before .before .before .before .before .args .c) (c .before .before .before .before .before .before .before .before .args .phase) (c .before .before .before .before .before .before .before .before .args .more) (c .before .before .before .before .before .before .outcome-for .ensures) (c .before .before .before .before .before .accepted .ensures) (c .before .before .before .before .if1 .taken)) in
     let l = w .bytes-limit in
     omega arith
 
 add-t11 : tie.Need-add-t11
-add-t11 c = 
+add-t11 c =
     let w = fitting (c .before .before .before .before .before .before .before .before .before .before .args .rooms) (c .before .before .before .before .before .before .before .before .before .before .args .s) (c .before .before .before .before .before .before .before .before .before .before .args .c) (c .before .before .before .before .before .before .before .before .before .before .args .phase) (c .before .before .before .before .before .before .before .before .before .before .args .more) (said (c .before .before .before .before .before .before .before .before .before .before .args .rooms) (c .before .before .before .before .before .before .before .before .before .before .args .s) (c .before .before .before .before .before .before .before .before .before .before .args .c) (c .before .before .before .before .before .before .before .before .before .before .args .phase) (c .before .before .before .before .before .before .before .before .before .before .args .more) (c .before .before .before .before .before .before .before .before .outcome-for .ensures) (c .before .before .before .before .before .before .before .accepted .ensures) (c .before .before .before .before .before .before .if1 .taken)) in
     let l = w .queries-limit in
     omega arith
