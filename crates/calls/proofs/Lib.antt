@@ -5,3 +5,5 @@ pub mod Ones
 pub mod Plans
 pub mod Listed
 pub mod Whole
+pub mod Owns
+pub mod Draws

@@ -10,3 +10,4 @@ pub mod Witness
 pub mod Judge
 pub mod Planned
 pub mod One
+pub mod Drawn

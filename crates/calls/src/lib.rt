@@ -1,4 +1,5 @@
 // The 31 recording calls.
+mod drawn;
 pub mod judge;
 mod one;
 mod parts;

@@ -1,6 +1,5 @@
 -- `calls::settings::viewport_rect` meets its contract. Assumes nothing.
 use Rattle.calls.proofs.Whole.{whole}
-
 use borrow.Author.Needs.{needs}
 use Rattle.calls.proofs.settings.viewport_rect.Statement.{statement}
 use Rattle.calls.proofs.settings.viewport_rect.Tie as tie
