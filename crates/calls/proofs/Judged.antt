@@ -10,7 +10,6 @@ use Rattle.records.specs.Check.{overRoom, stateConditions}
 use Rattle.records.specs.declared.check.Rooms.{Rooms}
 use Rattle.records.specs.declared.outcome.Conditions.{Conditions}
 use Rattle.records.specs.declared.outcome.Outcome.{Outcome}
-use Rattle.records.specs.declared.outcome.Outcome.the-variants.{Done, NoRoom}
 use Rattle.records.specs.declared.state.Phase.{Phase}
 use Rattle.records.specs.declared.state.Progress.{Progress}
 use Rattle.records.specs.declared.state.State.{State}
@@ -24,20 +23,32 @@ pub neither : (t u : Bool) → t || u ≡ false → (t ≡ false) × (u ≡ fals
 neither true u e = bad (sym e)
 neither false u e = (refl, e)
 
-module _ where
-  last : (r : Bool) → accepted (cond r NoRoom Done) ≡ true → r ≡ false
-  last true e = bad e
-  last false e = refl
+-- no condition holds
+pub record None (c : Conditions) : Type 0 where
+  pub phase : c .phase ≡ false
+  pub many : c .many ≡ false
+  pub range : c .range ≡ false
+  pub absent : c .absent ≡ false
+  pub kind : c .kind ≡ false
+  pub sum : c .sum ≡ false
+  pub room : c .room ≡ false
 
-  step : (t : Bool) (o next : Outcome) → accepted o ≡ false → accepted (cond t o next) ≡ true → accepted next ≡ true
-  step true o next n e = bad (sym n ∙ e)
-  step false o next n e = e
+tested : (t : Bool) (o next : Outcome) → accepted o ≡ false → accepted (cond t o next) ≡ true → (t ≡ false) × (accepted next ≡ true)
+tested true o next n e = bad (sym n ∙ e)
+tested false o next n e = (refl, e)
 
-  -- no condition of a call that is carried through holds, the room's neither
-  pub has-room : (c : Conditions) → accepted (smallest c) ≡ true → c .room ≡ false
-  unfolding smallest
-  has-room c e =
-      last (c .room) (step (c .sum) _ _ refl (step (c .kind) _ _ refl (step (c .absent) _ _ refl (step (c .range) _ _ refl (step (c .many) _ _ refl (step (c .phase) _ _ refl e))))))
+-- of a call that is carried through no condition holds
+pub none-holds : (c : Conditions) → accepted (smallest c) ≡ true → None c
+unfolding smallest
+none-holds c e =
+    let a = tested (c .phase) _ _ refl e in
+    let b = tested (c .many) _ _ refl (a .1) in
+    let d = tested (c .range) _ _ refl (b .1) in
+    let f = tested (c .absent) _ _ refl (d .1) in
+    let g = tested (c .kind) _ _ refl (f .1) in
+    let h = tested (c .sum) _ _ refl (g .1) in
+    let i = tested (c .room) _ _ refl (h .1) in
+    record { phase = a .0; many = b .0; range = d .0; absent = f .0; kind = g .0; sum = h .0; room = i .0 }
 
 -- the counts within the limits and within the runs
 pub record Within (p : Progress) (r : Rooms) : Type 0 where
@@ -65,8 +76,12 @@ within p r e =
     }
 
 module _ (rooms : Rooms) (s : State) (c : Conditions) (phase : Phase) (more : Counts) where
+  -- carried through: what it appends has room, and none of its own conditions holds
   pub fitting : accepted (judged rooms s c phase more) ≡ true → Within (grown (s .progress) phase more) rooms
-  fitting e = within (grown (s .progress) phase more) rooms (neither (c .room) _ (neither (stateConditions s rooms .room) _ (has-room _ e) .1) .1)
+  fitting e = within (grown (s .progress) phase more) rooms (neither (c .room) _ (neither (stateConditions s rooms .room) _ (none-holds _ e .room) .1) .1)
+
+  pub no-sum : accepted (judged rooms s c phase more) ≡ true → c .sum ≡ false
+  no-sum e = none-holds _ e .sum
 
   -- the verdict, and the test of it
   pub said : {o : Outcome} {t b : Bool} → o ≡ judged rooms s c phase more → t ≡ accepted o → t ≡ b → accepted (judged rooms s c phase more) ≡ b

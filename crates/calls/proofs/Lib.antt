@@ -7,3 +7,4 @@ pub mod Listed
 pub mod Whole
 pub mod Owns
 pub mod Draws
+pub mod Moved

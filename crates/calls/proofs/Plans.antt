@@ -68,33 +68,43 @@ module _ (room : ℕ) (s : State) (c : Conditions) (phase : Phase) (cs : List Co
           }
 
   -- the verdict, and where the commands go, as a plan works them out
-  pub record Found (o : Outcome) (p : Progress) (at n : ℕ) : Type 0 where
+  pub record Found (o : Outcome) (ok : Bool) (p : Progress) (at n : ℕ) : Type 0 where
     pub said : o ≡ outcome
+    pub sure : ok ≡ accepted outcome
     pub left : p ≡ taken outcome (grown (s .progress) phase (commandsOnly (length cs))) (s .progress)
     pub here : at ≡ cond (accepted outcome) (s .progress .commands) 0
     pub many : n ≡ cond (accepted outcome) (length cs) 0
 
   pub found : (rooms : Rooms) (k : ℕ) (more : Counts) {o : Outcome} (ok : Bool) {p : Progress} {at n : ℕ} → rooms ≡ listRooms room → k ≡ length cs → more ≡ commandsOnly k
       → (o ≡ judged rooms s c phase more) × (ok ≡ accepted (judged rooms s c phase more)) × (p ≡ taken (judged rooms s c phase more) (grown (s .progress) phase more) (s .progress))
-      → (at ≡ cond ok (s .progress .commands) 0) × (n ≡ cond ok k 0) → Found o p at n
+      → (at ≡ cond ok (s .progress .commands) 0) × (n ≡ cond ok k 0) → Found o ok p at n
   found rooms k more ok r l m v w =
       let e : more ≡ commandsOnly (length cs) = m ∙ ap commandsOnly l in
       let same : judged rooms s c phase more ≡ outcome = rw (r, e) in
       record {
         said = v .0 ∙ same;
+        sure = v .1 ∙ ap accepted same;
         left = v .2 ∙ rw (same, e);
         here = w .0 ∙ ap (λ (t : Bool). cond t (s .progress .commands) 0) (v .1 ∙ ap accepted same);
         many = w .1 ∙ ap (λ (x : ℕ). cond ok x 0) l ∙ ap (λ (t : Bool). cond t (length cs) 0) (v .1 ∙ ap accepted same);
       }
 
+  -- a command of it is written: it was carried through
+  pub some-written : {o : Outcome} {ok : Bool} {p : Progress} {at n : ℕ} → Found o ok p at n → (i : ℕ) → i < n → (accepted outcome ≡ true) × (i < length cs)
+  some-written {n = n} k i h = go (accepted outcome) refl
+    where
+      go : (t : Bool) → accepted outcome ≡ t → (t ≡ true) × (i < length cs)
+      go true e = (refl, subst (λ (x : ℕ). i < x) (rw e at (k .many)) h)
+      go false e = none-below (subst (λ (x : ℕ). i < x) (rw e at (k .many)) h)
+
   -- the state that a call leaves which makes `after` of it, the progress aside
-  pub next : {o : Outcome} {p : Progress} {at n : ℕ} → Found o p at n → (after x : State) → x ≡ withProgress p (taken outcome after s)
+  pub next : {o : Outcome} {ok : Bool} {p : Progress} {at n : ℕ} → Found o ok p at n → (after x : State) → x ≡ withProgress p (taken outcome after s)
       → x ≡ taken outcome (withProgress (grown (s .progress) phase (commandsOnly (length cs))) after) s
   next k after x e =
       e ∙ ap (λ (q : Progress). withProgress q (taken outcome after s)) (k .left) ∙ moved-or-not outcome s after (grown (s .progress) phase (commandsOnly (length cs)))
 
   -- and of one that leaves it
-  pub same : {o : Outcome} {p : Progress} {at n : ℕ} → Found o p at n → (x : State) → x ≡ withProgress p s
+  pub same : {o : Outcome} {ok : Bool} {p : Progress} {at n : ℕ} → Found o ok p at n → (x : State) → x ≡ withProgress p s
       → x ≡ taken outcome (withProgress (grown (s .progress) phase (commandsOnly (length cs))) s) s
   same k x e = next k s x (e ∙ ap (withProgress _) (sym (either-way (accepted outcome) s)))
 

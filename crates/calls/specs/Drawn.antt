@@ -10,6 +10,7 @@ use Rattle.records.specs.declared.command.Command.{Command}
 use Rattle.records.specs.declared.command.Command.the-variants.{DrawIndirect, DrawIndexedIndirect, PopDebugGroup}
 use Rattle.records.specs.declared.state.Answer.{Answer}
 use Rattle.records.specs.declared.state.State.{State}
+use Rattle.records.specs.declared.state.VertexState.{VertexState}
 use Rattle.slots.specs.Prepare.{prepared, preparedOver}
 use Rattle.slots.specs.Sent.{preparedPlaces}
 use Rattle.calls.specs.declared.drawn.Own.{Own}
@@ -42,6 +43,21 @@ pub record Sound (b : Drawn) : Type 0 where
   pub slots-fit : preparedOver (b .caps) (b .vertex) (b .instance) ≡ false
   pub own-fits : ownOver (b .own) ≡ false
   pub own-small : length (ownCommands (b .own)) < 2 ^ 32
+
+-- the vertex part after a draw: its dirty mask, and the instance that its slots were moved on by
+abbrev pub stepped : VertexState → ℕ → ℕ → VertexState
+stepped v dirty w =
+    record {
+      described = v .described;
+      bound = v .bound;
+      «by_instance» = v .«by_instance»;
+      «dirty_vbuf_mask» = dirty;
+      buffers = v .buffers;
+      «attribute_count» = v .«attribute_count»;
+      «active_first_instance» = w;
+      «instance_vbuf_mask» = v .«instance_vbuf_mask»;
+      attributes = v .attributes;
+    }
 
 abbrev pub DrawAllowed : Drawn → ℕ → Type 0
 DrawAllowed b i = (i < length (drawnCommands b)) × Sound b

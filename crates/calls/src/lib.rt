@@ -1,4 +1,5 @@
 // The 31 recording calls.
+mod drawing;
 mod drawn;
 pub mod judge;
 mod one;

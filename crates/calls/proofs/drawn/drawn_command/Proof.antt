@@ -22,7 +22,7 @@ command-at-requires : tie.Need-command-at-requires
 command-at-requires c κs = search needs
 
 own-command-requires : tie.Need-own-command-requires
-own-command-requires c κs = 
+own-command-requires c κs =
     let st = c .before .before .before .before in
     let b = st .args .batch in
     let f = st .pre .1 .first in
@@ -32,7 +32,7 @@ own-command-requires c κs =
     omega arith
 
 returns : tie.Need-returns
-returns c = 
+returns c =
     let st = c .before .before .before .before .before in
     let b = st .args .batch in
     let k = st .pre .1 in
@@ -41,7 +41,7 @@ returns c =
     stands-left _ (st .args .i) (prepared (b .caps) (b .vertex) (b .instance)) (ownCommands (b .own)) (omega arith) (c .command-at .ensures (k .places) (k .slots-fit)) (st .pre .0) PopDebugGroup
 
 returns-2 : tie.Need-returns-2
-returns-2 c = 
+returns-2 c =
     let st = c .before .before .before .before .before in
     let b = st .args .batch in
     let k = st .pre .1 in

@@ -1,0 +1,26 @@
+-- The state with a part changed where a call is carried through. Assumes nothing.
+use Prim.Native.Nat.{ℕ}
+use mathlib.Core.Bool.{Bool, true, false, cond}
+use mathlib.Core.Path.{_≡_, refl, ap, _∙_}
+use Rattle.records.specs.declared.state.Progress.{Progress}
+use Rattle.records.specs.declared.state.State.{State}
+use Rattle.records.specs.declared.state.VertexState.{VertexState}
+use Rattle.calls.specs.Drawn.{stepped}
+use Rattle.calls.specs.Parts.{withProgress, withVertex}
+
+vertex-next : (t : Bool) (new : VertexState) (s : State) (p : Progress) → withVertex (cond t new (s .vertex)) (withProgress p s) ≡ withProgress p (cond t (withVertex new s) s)
+vertex-next true new s p = refl
+vertex-next false new s p = refl
+
+pub stepped-or-not : (t : Bool) (v : VertexState) (dirty w : ℕ) → stepped v (cond t dirty (v .«dirty_vbuf_mask»)) (cond t w (v .«active_first_instance»)) ≡ cond t (stepped v dirty w) v
+stepped-or-not true v dirty w = refl
+stepped-or-not false v dirty w = refl
+
+pub vertex-moved : (t ok : Bool) (dirty w : ℕ) (new : VertexState) (s moved x : State) (p : Progress) (v : VertexState) → x ≡ withVertex v moved → moved ≡ withProgress p s
+    → v ≡ cond ok (stepped (s .vertex) dirty w) (s .vertex) → ok ≡ t → dirty ≡ new .«dirty_vbuf_mask» → stepped (s .vertex) (new .«dirty_vbuf_mask») w ≡ new
+    → x ≡ withProgress p (cond t (withVertex new s) s)
+vertex-moved t ok dirty w new s moved x p v e m a b d n =
+    let k : v ≡ cond t new (s .vertex) =
+    a ∙ ap (λ (y : Bool). cond y (stepped (s .vertex) dirty w) (s .vertex)) b
+    ∙ ap (λ (y : VertexState). cond t y (s .vertex)) (ap (λ (y : ℕ). stepped (s .vertex) y w) d ∙ n) in
+    e ∙ ap (withVertex v) m ∙ ap (λ (y : VertexState). withVertex y (withProgress p s)) k ∙ vertex-next t new s p
