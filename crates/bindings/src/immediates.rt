@@ -1,8 +1,11 @@
-// Immediates: the range of a call, a word's bytes, a descriptor's command.
+// Immediates: the range of a call, the words after it, a word's bytes.
 ghost use mathlib.Core.Path.{_≡_};
-ghost use lib.ListN.{getD};
-ghost use Rattle.bindings.specs.Immediates.{littleEndian, immediatesOutOfRange};
+ghost use mathlib.Core.Bool.{false};
+ghost use lib.ListN.{getD, take};
+ghost use denote.Ref.{now};
+ghost use Rattle.bindings.specs.Immediates.{littleEndian, immediatesOutOfRange, immediatesState};
 use records::check::within;
+use records::state::ImmediateState;
 
 // Condition 3 of a call that writes `count` words from the byte `offset` on.
 pub fn out_of_range(offset: u32, count: usize) -> bool
@@ -10,6 +13,30 @@ pub fn out_of_range(offset: u32, count: usize) -> bool
 {
     let first = (offset / 4) as usize;
     (offset % 4 != 0) | (64 < first + within(count, 65))
+}
+
+// The state after a call that writes `count` words from the byte `offset` on.
+pub fn immediates_after(
+    words: &[u32],
+    count: usize,
+    i: ImmediateState,
+    offset: u32,
+) -> ImmediateState
+    ensures { λ r. ⌜ (immediatesOutOfRange offset count ≡ false → r ≡ immediatesState i offset (take count (now (words .entry)))) ⌝ }
+{
+    let mut next = i;
+    if out_of_range(offset, count) {
+        return next;
+    }
+    let first = (offset / 4) as usize;
+    let n = within(count, words.len());
+    let mut j: usize = 0;
+    while j < n {
+        let at = first + j;
+        next.words[at] = words[j];
+        j = j + 1;
+    }
+    next
 }
 
 // Byte number j of a word, the lowest first; 0 past the fourth.

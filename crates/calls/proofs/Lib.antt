@@ -6,5 +6,6 @@ pub mod Plans
 pub mod Listed
 pub mod Whole
 pub mod Owns
-pub mod Draws
+pub mod DrawPlans
 pub mod Moved
+pub mod Index

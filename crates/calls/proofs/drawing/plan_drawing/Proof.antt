@@ -58,7 +58,7 @@ with-vertex-requires c κs = search needs
 
 returns : tie.Need-returns
 unfolding outcomeOf
-returns c = 
+returns c =
     λ own-fits.
     let a = c .before .before .before .before .before .before .before .before .before .before .before .before .before .before .before .args in
     let s = a .s in
@@ -70,13 +70,14 @@ returns c =
     record { phase = not (inRender (s .progress .phase)); many = false; range = false; absent = a .absent; kind = false; sum = preparedOver (a .caps) (s .vertex) (a .w) || a .over; room = false } in
     let k = found (a .room) s asks (s .progress .phase) cs _ _ _ _ (c .before .before .before .before .before .before .before .before .before .list-rooms .ensures) (rw (ready .0, own) (sym (length-append ps (ownCommands (a .own))))) (c .before .before .before .before .before .before .before .before .commands-only .ensures)
     (rw (c .before .before .before .before .before .before .before .in-render .ensures, ready .3) at (c .before .before .before .before .before .judge .ensures)) (c .before .before .before .before .spot-of .ensures) in
-    let after = vertex-moved _ _ _ (a .w) (preparedState (a .caps) (s .vertex) (a .w)) s _ _ _ _ (c .with-vertex .ensures) (c .before .with-progress .ensures) (c .before .before .stepped .ensures) (k .sure) (ready .2) refl in
-    ((k .said, next (a .room) s asks (s .progress .phase) cs k (withVertex (preparedState (a .caps) (s .vertex) (a .w)) s) _ after),
-    laid (a .room) s asks (s .progress .phase) cs _ _ _ (k .here) (k .many) (λ h i l. refl),
-    λ i h.
-    let w = some-written (a .room) s asks (s .progress .phase) cs k i h in
-    let o = neither (preparedOver (a .caps) (s .vertex) (a .w)) (a .over) (no-sum (listRooms (a .room)) s asks (s .progress .phase) (commandsOnly (length cs)) (w .0)) in
-    (w .1, record { places = ready .1; first = ready .0; slots-fit = o .0; own-fits = own-fits (o .1); own-small = rw (sym own) (c .before .before .before .before .before .before .before .before .before .before .own-count .ok) }))
+    let after = vertex-moved _ _ _ (a .w) (preparedState (a .caps) (s .vertex) (a .w)) s _ _ _ _ (c .with-vertex .ensures) (c .before .with-progress .ensures) (c .before .before .stepped .ensures) (k .sure) (ready .2) refl in (
+      (k .said, next (a .room) s asks (s .progress .phase) cs k (withVertex (preparedState (a .caps) (s .vertex) (a .w)) s) _ after),
+      laid (a .room) s asks (s .progress .phase) cs _ _ _ (k .here) (k .many) (λ h i l. refl),
+      λ i h.
+          let w = some-written (a .room) s asks (s .progress .phase) cs k i h in
+          let o = neither (preparedOver (a .caps) (s .vertex) (a .w)) (a .over) (no-sum (listRooms (a .room)) s asks (s .progress .phase) (commandsOnly (length cs)) (w .0)) in
+          (w .1, record { places = ready .1; first = ready .0; slots-fit = o .0; own-fits = own-fits (o .1); own-small = rw (sym own) (c .before .before .before .before .before .before .before .before .before .before .own-count .ok) }),
+    )
 
 pub plan-drawing-spec : {M : Type 1} → statement M
 plan-drawing-spec =

@@ -11,7 +11,7 @@ pick-requires-2 : tie.Need-pick-requires-2
 pick-requires-2 c κs = search needs
 
 returns : tie.Need-returns
-returns c = 
+returns c =
     let a = c .before .before .args in
     rw (c .pick2 .ensures, c .before .pick .ensures) (stepped-or-not (a .ok) (a .v) (a .dirty) (a .w))
 

@@ -1,7 +1,7 @@
 -- `calls::drawn::commit_drawn` meets its contract, by walks/proofs/Committing.antt. Assumes nothing.
 use mathlib.Core.Path.{refl}
 use Rattle.walks.proofs.Committing.{Plans, commits}
-use Rattle.calls.proofs.Draws.{Spelled, draws}
+use Rattle.calls.proofs.DrawPlans.{Spelled, draws}
 use Rattle.calls.proofs.drawn.drawn_batch.Symbol as batch
 use Rattle.calls.proofs.drawn.drawn_batch.Met as batch-thm
 use Rattle.calls.proofs.drawn.drawn_at.Symbol as at

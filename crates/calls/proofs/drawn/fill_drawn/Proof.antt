@@ -2,7 +2,7 @@
 use mathlib.Core.Path.{refl}
 use Rattle.walks.proofs.Filling.{fills}
 use Rattle.calls.specs.Drawn.{DrawAllowed, drawnAt}
-use Rattle.calls.proofs.Draws.{Spelled, kinds}
+use Rattle.calls.proofs.DrawPlans.{Spelled, kinds}
 use Rattle.calls.proofs.drawn.drawn_command.Symbol as command
 use Rattle.calls.proofs.drawn.drawn_command.Met as command-thm
 use Rattle.calls.proofs.drawn.fill_drawn.Key as key
