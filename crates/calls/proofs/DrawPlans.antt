@@ -1,12 +1,29 @@
 -- Plans of draws, as the walks have them, and as a function's table spells their types. Assumes nothing.
+use Prim.Native.Nat.{ℕ, _+_, _<_, _≤_}
+use mathlib.Core.List.{List, []}
+use mathlib.Core.Path.{_≡_}
+use lib.ListN.{length}
 use mir.Table.{Table}
+use Rattle.walks.specs.Fill.{filled}
 use Rattle.walks.proofs.Args.{of-struct}
 use Rattle.walks.proofs.Filling.{Kinds}
 use Rattle.walks.proofs.Committing.{Plans}
+use Rattle.records.specs.declared.check.Rooms.{Rooms}
+use Rattle.records.specs.declared.command.Record.{Record}
+use Rattle.records.specs.declared.pipeline.PrivateCapabilities.{PrivateCapabilities}
+use Rattle.records.specs.declared.state.Answer.{Answer}
+use Rattle.records.specs.declared.state.State.{State}
 use Rattle.records.proofs.command.Command as C
 use Rattle.records.proofs.command.Record as R
 use Rattle.records.proofs.state.Answer as A
-use Rattle.calls.specs.Drawn.{DrawAllowed, drawnAt, drawAnswer}
+use Rattle.calls.specs.declared.drawn.DrawPlan.{DrawPlan}
+use Rattle.calls.specs.Call.{Call}
+use Rattle.calls.specs.Did.{Lists, recordOf}
+use Rattle.calls.specs.Drawn.{DrawAllowed, DrawOf, drawnAt, drawAnswer}
+use Rattle.calls.specs.Meaning.{Meaning}
+use Rattle.calls.specs.Planned.{listRooms}
+use Rattle.calls.specs.Step.{meaning}
+use Rattle.calls.proofs.Listed.{lists-done}
 use Rattle.calls.proofs.Data.{text, Spells, SpellsE, kindsOf, answer}
 use Rattle.calls.proofs.drawn.Drawn as B
 use Rattle.calls.proofs.drawn.Drawn.Laws as B′
@@ -34,3 +51,14 @@ draws Δ e p a =
       Allowed = DrawAllowed;
       commandAt = drawnAt;
     }
+
+-- a plan that is right fits
+pub draw-fits : (room : ℕ) (s : State) (m : Meaning) (p : DrawPlan) → DrawOf room s m p → (p .batch .at + p .batch .n ≤ room) × ((i : ℕ) → i < p .batch .n → DrawAllowed (p .batch) i)
+draw-fits room s m p h = (h .1 .fits, h .2)
+
+-- and written it is the call
+pub draw-done : (caps : PrivateCapabilities) (s : State) (c : Call) → ((r : Rooms) → meaning caps s c .handed r ≡ listRooms (r .commands)) → meaning caps s c .bytes ≡ [] → meaning caps s c .queries ≡ []
+    → (run run′ : List Record) (a : Answer) (p : DrawPlan) → DrawOf (length run) s (meaning caps s c) p
+    → (a ≡ drawAnswer p) × (run′ ≡ filled (λ i. recordOf (drawnAt (p .batch) i)) run (p .batch .at) (p .batch .n)) → Lists caps s c run a run′
+draw-done caps s c alone no-bytes no-queries run run′ a p h e =
+    lists-done caps s c alone no-bytes no-queries run run′ a (p .outcome) (p .next) (p .batch .at) (p .batch .n) (drawnAt (p .batch)) (h .0) (h .1) (e .0) (e .1)

@@ -9,3 +9,4 @@ pub mod Owns
 pub mod DrawPlans
 pub mod Moved
 pub mod Index
+pub mod Swapped

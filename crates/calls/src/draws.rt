@@ -108,3 +108,154 @@ fn index_over(d: DrawState, first: u32) -> bool
     let more = size * (first as u64);
     18446744073709551615 - d.index_offset < more
 }
+
+fn plan_draw_indexed(
+    room: usize,
+    caps: PrivateCapabilities,
+    s: State,
+    first_index: u32,
+    index_count: u32,
+    base_vertex: i32,
+    first_instance: u32,
+    instance_count: u32,
+) -> DrawPlan
+    ensures { λ r. ⌜ DrawOf room s (drawIndexed caps s «first_index» «index_count» «base_vertex» «first_instance» «instance_count») r ⌝ }
+{
+    let d = s.draw;
+    let location = d.first_instance_location;
+    let format = d.index_format;
+    let w = working(caps, first_instance);
+    let over = index_over(d, first_index);
+    let own = Own::One(Command::DrawIndexed {
+        topology: d.topology,
+        index_type: index_type(format),
+        index_count,
+        index_offset: index_offset(d, first_index),
+        base_vertex,
+        first_instance,
+        instance_count,
+        first_instance_location: location,
+    });
+    plan_drawing(room, caps, s, w, false, over, own)
+}
+
+pub fn draw_indexed(
+    list: &mut [Record],
+    caps: PrivateCapabilities,
+    s: State,
+    first_index: u32,
+    index_count: u32,
+    base_vertex: i32,
+    first_instance: u32,
+    instance_count: u32,
+) -> Answer
+    ensures { λ r. ⌜ Lists caps s (draw-indexed «first_index» «index_count» «base_vertex» «first_instance» «instance_count») (now (list .entry)) r (now (list .exit)) ⌝ }
+{
+    let plan = plan_draw_indexed(
+        list.len(),
+        caps,
+        s,
+        first_index,
+        index_count,
+        base_vertex,
+        first_instance,
+        instance_count,
+    );
+    commit_drawn(list, plan)
+}
+
+// Whether the offset of the last of `count` records of `size` bytes leaves its field.
+fn indirect_over(size: u64, offset: u64, count: u32) -> bool
+    requires { ⌜ size < 32 ⌝ }
+    ensures { λ r. ⌜ r ≡ indirectOver size offset count ⌝ }
+{
+    if count == 0 {
+        return false;
+    }
+    let more = ((count - 1) as u64) * size;
+    18446744073709551615 - offset < more
+}
+
+fn indirect_absent(raw: u32, count: u32) -> bool
+    ensures { λ r. ⌜ r ≡ indirectAbsent raw count ⌝ }
+{
+    (0 < count) & (raw == 0)
+}
+
+fn plan_draw_indirect(
+    room: usize,
+    caps: PrivateCapabilities,
+    s: State,
+    buffer: u32,
+    offset: u64,
+    draw_count: u32,
+) -> DrawPlan
+    ensures { λ r. ⌜ DrawOf room s (drawIndirect caps s buffer offset «draw_count») r ⌝ }
+{
+    let d = s.draw;
+    let location = d.first_instance_location;
+    let absent = indirect_absent(buffer, draw_count);
+    let over = indirect_over(16, offset, draw_count);
+    let own = Own::Indirect {
+        topology: d.topology,
+        raw: buffer,
+        offset,
+        location,
+        count: draw_count,
+    };
+    plan_drawing(room, caps, s, 0, absent, over, own)
+}
+
+pub fn draw_indirect(
+    list: &mut [Record],
+    caps: PrivateCapabilities,
+    s: State,
+    buffer: u32,
+    offset: u64,
+    draw_count: u32,
+) -> Answer
+    ensures { λ r. ⌜ Lists caps s (draw-indirect buffer offset «draw_count») (now (list .entry)) r (now (list .exit)) ⌝ }
+{
+    let plan = plan_draw_indirect(list.len(), caps, s, buffer, offset, draw_count);
+    commit_drawn(list, plan)
+}
+
+fn plan_draw_indexed_indirect(
+    room: usize,
+    caps: PrivateCapabilities,
+    s: State,
+    buffer: u32,
+    offset: u64,
+    draw_count: u32,
+) -> DrawPlan
+    ensures { λ r. ⌜ DrawOf room s (drawIndexedIndirect caps s buffer offset «draw_count») r ⌝ }
+{
+    let d = s.draw;
+    let location = d.first_instance_location;
+    let format = d.index_format;
+    let absent = indirect_absent(buffer, draw_count);
+    let over = indirect_over(20, offset, draw_count);
+    let own = Own::IndexedIndirect {
+        topology: d.topology,
+        index_type: index_type(format),
+        raw: buffer,
+        offset,
+        location,
+        count: draw_count,
+    };
+    plan_drawing(room, caps, s, 0, absent, over, own)
+}
+
+pub fn draw_indexed_indirect(
+    list: &mut [Record],
+    caps: PrivateCapabilities,
+    s: State,
+    buffer: u32,
+    offset: u64,
+    draw_count: u32,
+) -> Answer
+    ensures { λ r. ⌜ Lists caps s (draw-indexed-indirect buffer offset «draw_count») (now (list .entry)) r (now (list .exit)) ⌝ }
+{
+    let plan = plan_draw_indexed_indirect(list.len(), caps, s, buffer, offset, draw_count);
+    commit_drawn(list, plan)
+}

@@ -11,7 +11,7 @@ index-size-requires : tie.Need-index-size-requires
 index-size-requires c κs = search needs
 
 mul-more : tie.Need-mul-more
-mul-more c = 
+mul-more c =
     let st = c .before in
     let s : c .index-size .result < 2 ^ 32 = rw (c .index-size .ensures) (size-small (st .args .d .«index_format»)) in
     let f : st .args .first < 2 ^ 32 = omega arith in
@@ -24,7 +24,7 @@ add-result : tie.Need-add-result
 add-result c = search needs
 
 returns : tie.Need-returns
-returns c = 
+returns c =
     λ h.
     let t = c .if1 .taken in
     let e = c .before .before .index-size .ensures in

@@ -11,7 +11,7 @@ index-size-requires : tie.Need-index-size-requires
 index-size-requires c κs = search needs
 
 mul-more : tie.Need-mul-more
-mul-more c = 
+mul-more c =
     let st = c .before in
     let s : c .index-size .result < 2 ^ 32 = rw (c .index-size .ensures) (size-small (st .args .d .«index_format»)) in
     let f : st .args .first < 2 ^ 32 = omega arith in
@@ -21,7 +21,7 @@ sub-result : tie.Need-sub-result
 sub-result c = search needs
 
 returns : tie.Need-returns
-returns c = 
+returns c =
     let st = c .before .before in
     let h : st .args .d .«index_offset» < 2 ^ 64 = omega arith in
     rw (c .before .index-size .ensures) (past-field _ _ h)
