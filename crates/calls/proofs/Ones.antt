@@ -1,9 +1,10 @@
 -- Plans of one command, as the walks have them, and as a function's table spells their types. Assumes nothing.
 use Prim.Native.Nat.{ℕ, _+_, _<_, _≤_}
-use mathlib.Core.Bool.{Bool, true, false, cond}
+use mathlib.Core.Bool.{Bool, true, false, cond, not, _||_}
 use mathlib.Core.List.{List, [], _∷_}
 use mathlib.Core.Path.{_≡_, refl}
 use native.Mathlib.Omega.{arith}
+use lib.Dec.{eqb}
 use lib.ListN.{length}
 use mir.Table.{Table}
 use Rattle.walks.proofs.Args.{Datum, of-struct}
@@ -16,6 +17,7 @@ use Rattle.walks.specs.Fill.{filled}
 use Rattle.records.specs.Outcome.{accepted}
 use Rattle.records.specs.declared.check.Rooms.{Rooms}
 use Rattle.records.specs.declared.command.Command.{Command}
+use Rattle.records.specs.declared.command.Command.the-variants.{Dispatch}
 use Rattle.records.specs.declared.command.Record.{Record}
 use Rattle.records.specs.declared.outcome.Outcome.{Outcome}
 use Rattle.records.specs.declared.pipeline.PrivateCapabilities.{PrivateCapabilities}
@@ -25,9 +27,10 @@ use Rattle.calls.specs.declared.one.OnePlan.{OnePlan}
 use Rattle.calls.specs.Call.{Call}
 use Rattle.calls.specs.Did.{Lists, recordOf}
 use Rattle.calls.specs.Judge.{taken}
-use Rattle.calls.specs.One.{OneFor, OneOf, oneAnswer}
+use Rattle.calls.specs.One.{OneFor, OneOf, oneAnswer, only}
 use Rattle.calls.specs.Planned.{listRooms}
 use Rattle.calls.specs.Step.{meaning}
+use Rattle.calls.specs.Transfers.{dispatchCommands}
 use Rattle.calls.proofs.Listed.{lists-done}
 use Rattle.calls.proofs.Data.{text, Spells, SpellsE, kindsOf, answer}
 use Rattle.calls.proofs.one.One as B
@@ -72,3 +75,15 @@ pub one-done : (caps : PrivateCapabilities) (s : State) (c : Call) → ((r : Roo
     → (a ≡ oneAnswer p) × (run′ ≡ filled (λ i. recordOf (p .batch .command)) run (p .batch .at) (p .batch .n)) → Lists caps s c run a run′
 one-done caps s c alone no-bytes no-queries run run′ a p h e =
     lists-done caps s c alone no-bytes no-queries run run′ a (p .outcome) (p .next) (p .batch .at) (p .batch .n) (λ i. p .batch .command) (h .0) (h .1) (e .0) (e .1)
+
+-- a dispatch records one command or none
+pub not-none : (t : Bool) (c : Command) → only (not t) c ≡ cond t [] (c ∷ [])
+not-none true c = refl
+not-none false c = refl
+
+pub few-dispatched : (x y z : ℕ) → length (dispatchCommands x y z) ≤ 1
+few-dispatched x y z = go (eqb x 0 || (eqb y 0 || eqb z 0))
+  where
+    go : (t : Bool) → length (cond t [] (Dispatch x y z ∷ [])) ≤ 1
+    go true = omega arith
+    go false = omega arith

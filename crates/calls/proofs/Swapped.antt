@@ -48,10 +48,11 @@ module _ (room : ℕ) (caps : PrivateCapabilities) (s : State) (w : ℕ) (four :
   over p h =
       let o = refused in
       let o′ : accepted (outcomeIn room s (m cs′)) ≡ false = sym (ap accepted same) ∙ o in
-      let none : p .batch .n ≡ 0 = h .1 .count ∙ rw o in
-      ((h .0 .0 ∙ same, h .0 .1 ∙ rw (o, o′)),
-      record { count = none ∙ rw o′; fits = h .1 .fits; behind = h .1 .behind; each = λ i k. absurd (omega arith) },
-      h .2)
+      let none : p .batch .n ≡ 0 = h .1 .count ∙ rw o in (
+        (h .0 .0 ∙ same, h .0 .1 ∙ rw (o, o′)),
+        record { count = none ∙ rw o′; fits = h .1 .fits; behind = h .1 .behind; each = λ i k. absurd (omega arith) },
+        h .2,
+      )
 
 pub swapped : (room : ℕ) (caps : PrivateCapabilities) (s : State) (w : ℕ) (four six : Bool) (cs cs′ : List Command) → length cs ≡ length cs′ → (six ≡ false → cs ≡ cs′)
     → (p : DrawPlan) → DrawOf room s (drawing caps s w four six cs) p → DrawOf room s (drawing caps s w four six cs′) p

@@ -1,4 +1,5 @@
 // The 31 recording calls.
+pub mod dispatches;
 mod drawing;
 mod drawn;
 pub mod draws;

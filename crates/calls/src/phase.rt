@@ -85,3 +85,18 @@ pub fn in_phase(allowed: bool) -> Conditions
         room: false,
     }
 }
+
+// The phase, and an object that is not absent.
+pub fn in_phase_with(allowed: bool, absent: bool) -> Conditions
+    ensures { λ r. ⌜ r ≡ record { phase = not allowed; many = no; range = no; absent = absent; kind = no; sum = no; room = no } ⌝ }
+{
+    Conditions {
+        phase: !allowed,
+        many: false,
+        range: false,
+        absent,
+        kind: false,
+        sum: false,
+        room: false,
+    }
+}

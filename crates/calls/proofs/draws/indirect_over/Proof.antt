@@ -19,7 +19,7 @@ cast-more : tie.Need-cast-more
 cast-more c = search needs
 
 mul-more : tie.Need-mul-more
-mul-more c = 
+mul-more c =
     let st = c .before in
     let s : st .args .size < 2 ^ 32 = omega (arith, st .pre) in
     let k : st .args .count - 1 < 2 ^ 32 = omega arith in
@@ -29,7 +29,7 @@ sub-result : tie.Need-sub-result
 sub-result c = search needs
 
 returns-2 : tie.Need-returns-2
-returns-2 c = 
+returns-2 c =
     let st = c .before in
     let h : st .args .offset < 2 ^ 64 = omega arith in
     let l = c .if1 .left in

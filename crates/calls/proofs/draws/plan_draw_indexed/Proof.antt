@@ -31,7 +31,7 @@ plan-drawing-requires : tie.Need-plan-drawing-requires
 plan-drawing-requires c κs = search needs
 
 returns : tie.Need-returns
-returns c = 
+returns c =
     let st = c .before .before .before .before .before .before in
     let a = st .args in
     let d = drawArgs (a .s .draw) in
