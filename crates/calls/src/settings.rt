@@ -1,14 +1,23 @@
 // The settings of a render pass that record one command or none.
 ghost use mathlib.Core.Path.{_≡_};
-ghost use Rattle.calls.specs.Call.{set-viewport, set-scissor-rect, set-blend-constants};
+ghost use mathlib.Core.Bool.{cond};
+ghost use Rattle.calls.specs.Call.{set-index-buffer, set-viewport, set-scissor-rect, set-blend-constants};
 ghost use Rattle.calls.specs.Did.{Lists};
 ghost use Rattle.calls.specs.One.{OneOf};
-ghost use Rattle.calls.specs.Settings.{viewportRect, scissorRect};
-ghost use Rattle.calls.specs.Step.{setViewport, setScissorRect, setBlendConstants};
+ghost use Rattle.calls.specs.Settings.{viewportRect, scissorRect, indexed as indexedOf};
+ghost use Rattle.calls.specs.Step.{setIndexBuffer, setViewport, setScissorRect, setBlendConstants};
+use crate::judge::commands_only;
+use crate::judge::judge;
+use crate::judge::list_rooms;
+use crate::judge::spot_of;
+use crate::one::One;
 use crate::one::OnePlan;
 use crate::one::commit_one;
 use crate::one::plan_one;
+use crate::parts::with_draw;
+use crate::parts::with_progress;
 use crate::phase::in_phase;
+use crate::phase::in_phase_with;
 use crate::phase::in_render;
 use numbers::as_i32;
 use numbers::trunc_i32;
@@ -21,6 +30,8 @@ use records::command::Record;
 use records::command::RectI32;
 use records::pipeline::PrivateCapabilities;
 use records::state::Answer;
+use records::state::DrawState;
+use records::state::IndexFormat;
 use records::state::State;
 
 fn viewport_rect(r: RectF32) -> RectI32
@@ -119,5 +130,69 @@ pub fn set_blend_constants(
     ensures { λ r. ⌜ Lists caps s (set-blend-constants color) (now (list .entry)) r (now (list .exit)) ⌝ }
 {
     let plan = plan_set_blend_constants(list.len(), caps, s, color);
+    commit_one(list, plan)
+}
+
+// The index buffer's format and offset, or what they were.
+fn indexed(ok: bool, d: DrawState, offset: u64, format: IndexFormat) -> DrawState
+    ensures { λ r. ⌜ r ≡ cond ok (indexedOf offset format d) d ⌝ }
+{
+    let location = d.first_instance_location;
+    if ok {
+        return DrawState {
+            topology: d.topology,
+            index_format: format,
+            index_offset: offset,
+            first_instance_location: location,
+        };
+    }
+    d
+}
+
+fn plan_set_index_buffer(
+    room: usize,
+    caps: PrivateCapabilities,
+    s: State,
+    buffer: u32,
+    offset: u64,
+    format: IndexFormat,
+) -> OnePlan
+    ensures { λ r. ⌜ OneOf room s (setIndexBuffer s buffer offset format) r ⌝ }
+{
+    let p = s.progress;
+    let phase = p.phase;
+    let d = s.draw;
+    let c = in_phase_with(in_render(phase), buffer == 0);
+    let rooms = list_rooms(room);
+    let more = commands_only(1);
+    let v = judge(rooms, s, c, phase, more);
+    let place = spot_of(v.ok, p.commands, 1);
+    let outcome = v.outcome;
+    let progress = v.progress;
+    let draw = indexed(v.ok, d, offset, format);
+    let moved = with_progress(s, progress);
+    let next = with_draw(moved, draw);
+    OnePlan {
+        next,
+        batch: One {
+            at: place.at,
+            n: place.n,
+            command: Command::SetIndexBuffer(buffer),
+        },
+        outcome,
+    }
+}
+
+pub fn set_index_buffer(
+    list: &mut [Record],
+    caps: PrivateCapabilities,
+    s: State,
+    buffer: u32,
+    offset: u64,
+    format: IndexFormat,
+) -> Answer
+    ensures { λ r. ⌜ Lists caps s (set-index-buffer buffer offset format) (now (list .entry)) r (now (list .exit)) ⌝ }
+{
+    let plan = plan_set_index_buffer(list.len(), caps, s, buffer, offset, format);
     commit_one(list, plan)
 }

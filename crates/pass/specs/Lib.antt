@@ -1,3 +1,9 @@
 pub mod Marks
 pub mod Render
+pub mod Places
+pub mod Gather
+pub mod Survey
+pub mod Resolves
+pub mod Plan
+pub mod End
 pub mod Witness

@@ -1,4 +1,10 @@
 pub mod Inner
 pub mod Vertex
 pub mod Fixed
+pub mod Units
+pub mod Slots
+pub mod Targets
+pub mod Plan
+pub mod Render
+pub mod Desc
 pub mod Witness

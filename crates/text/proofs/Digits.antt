@@ -1,5 +1,5 @@
 -- Laws of the digits: how a number's digits come from those of its quotient, and how many there are. Assumes nothing.
-use Prim.Native.Nat.{ℕ, zero, suc, _+_, _-_, _*_, _/_, _%_, _^_, _≤_, _<_}
+use Prim.Native.Nat.{ℕ, zero, suc, _+_, _-_, _/_, _%_, _^_, _≤_, _<_}
 use native.Mathlib.Nat.{pow-suc}
 use native.Mathlib.Numerals.{sub-one}
 use native.Mathlib.Omega.{arith}
@@ -15,7 +15,7 @@ use mir.Facts.{toZ-ofZ}
 use lib.ListN.{length, length-append}
 use borrow.Author.Tests.{lt-ltb, le-ltb}
 use Rattle.numbers.specs.Convert.{bitsTo}
-use Rattle.text.specs.Digits.{decimalIn, decimal, hexDigit, hexIn, hex, signed}
+use Rattle.text.specs.Digits.{decimalIn, decimal, hexDigit, hexIn, signed}
 
 -- one digit more to look for changes nothing
 more : (k n : ℕ) → n < 10 ^ suc k → decimalIn k n ≡ decimalIn (suc k) n

@@ -10,12 +10,16 @@ use Rattle.numbers.specs.Convert.{bits32}
 use Rattle.records.specs.declared.command.OptionU32.{OptionU32}
 use Rattle.records.specs.declared.command.OptionU32.the-variants.{None, Some}
 use Rattle.text.specs.declared.field.Field.{Field}
-use Rattle.text.specs.declared.field.Field.the-variants.{Number, Long, Signed, Flag, Float, Bits, Optional, Buffer, Absent}
+use Rattle.text.specs.declared.field.Field.the-variants.{Number, Long, Signed, Flag, Float, Bits, Optional, Buffer, Absent, Text}
+use Rattle.text.specs.declared.field.Word.{Word}
+use Rattle.text.specs.declared.field.Word.the-variants.{DirtyMask, ActiveFirstInstance, State}
 use Rattle.text.specs.declared.field.Shown.{Shown}
 use Rattle.text.specs.Digits.{signed}
-use Rattle.text.specs.Field.{optional, presentOf, fieldText, spaced}
-use Rattle.text.specs.Shown.{listOf}
+use Rattle.text.specs.Field.{optional, presentOf, wordText, fieldText, spaced}
+use Rattle.text.specs.Shown.{listOf, nameAt}
+use Rattle.text.specs.Put.{bodyOf}
 use Rattle.text.proofs.Digits.{decimal-long, hex-long}
+use Rattle.text.proofs.Names.{name-short}
 
 signed-short : (z : ℤ) → length (signed z) ≤ 21
 signed-short (pos n) = omega (arith, decimal-long n)
@@ -24,6 +28,11 @@ signed-short (negsuc n) = omega (arith, decimal-long (suc n))
 optional-short : (o : OptionU32) → length (optional o) ≤ 21
 optional-short None = omega arith
 optional-short (Some n) = omega (arith, decimal-long n)
+
+pub word-short : (w : Word) → length (wordText w) ≤ 21
+word-short DirtyMask = omega arith
+word-short ActiveFirstInstance = omega arith
+word-short State = omega arith
 
 -- a field has at most 21 bytes
 pub field-short : (f : Field) → length (fieldText f) ≤ 21
@@ -36,6 +45,7 @@ field-short (Bits n) = omega (arith, hex-long 8 n)
 field-short (Optional o) = optional-short o
 field-short (Buffer n) = optional-short (presentOf n)
 field-short Absent = omega arith
+field-short (Text w) = word-short w
 
 -- a row of fields, each after a blank
 spaced-short : (fs : List Field) → length (spaced fs) ≤ 22 * length fs
@@ -47,6 +57,18 @@ pub shown-short : (s : Shown) → s .count ≤ 14 → length (spaced (listOf s))
 shown-short s h =
     let n : length (listOf s) ≤ 14 = simp (length-map, length-take) (omega arith) in
     omega (arith, spaced-short (listOf s))
+
+-- a name, its fields and a newline
+pub body-short : (s : Shown) → s .name < 74 → s .count ≤ 14 → length (bodyOf s) ≤ 333
+body-short s n h =
+    let f = spaced (listOf s) in
+    omega (
+      arith,
+      shown-short s h,
+      name-short (s .name) n,
+      length-append f (10 ∷ []),
+      length-append (nameAt (s .name)) (f ++ (10 ∷ [])),
+    )
 
 spaced-append : (xs ys : List Field) → spaced (xs ++ ys) ≡ spaced xs ++ spaced ys
 unfolding spaced

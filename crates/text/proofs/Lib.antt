@@ -4,3 +4,4 @@ pub mod Fields
 pub mod Names
 pub mod Placed
 pub mod Told
+pub mod Room

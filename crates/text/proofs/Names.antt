@@ -2,8 +2,8 @@
 use Prim.Native.Nat.{ℕ, zero, suc, _+_, _-_, _≤_, _<_}
 use native.Mathlib.Nat.{le-of-suc-le-suc, not-suc-le-zero}
 use native.Mathlib.Omega.{arith}
-use mathlib.Core.Path.{_≡_, refl, sym, ap, _∙_}
-use mathlib.Core.Bool.{Bool, true, false, _&&_}
+use mathlib.Core.Path.{_≡_, ap, _∙_}
+use mathlib.Core.Bool.{Bool, true, _&&_}
 use mathlib.Core.List.{List, [], _∷_, _++_}
 use lib.Dec.{T, leb, leb→le}
 use lib.ListN.{length, take, drop, getD, length-take, drop-of-length-le}
@@ -13,7 +13,7 @@ use Rattle.text.specs.Shown.{names, ends, nameAt}
 
 -- from a to b, the beginning of a name and that of the next
 abbrev pub near : ℕ → ℕ → Bool
-near a b = leb a b && (leb b (a + 22) && leb b 708)
+near a b = leb a b && (leb b (a + 24) && leb b 1007)
 
 abbrev pub nears : List ℕ → Bool
 nears [] = true
@@ -22,14 +22,14 @@ nears (a ∷ b ∷ l) = near a b && nears (b ∷ l)
 
 pub record Near (a b : ℕ) : Type 0 where
   pub up : a ≤ b
-  pub close : b ≤ a + 22
-  pub inside : b ≤ 708
+  pub close : b ≤ a + 24
+  pub inside : b ≤ 1007
 
 near-is : (a b : ℕ) → T (near a b) → Near a b
 near-is a b t =
-    let x = and-yes (leb a b) (leb b (a + 22) && leb b 708) t in
-    let y = and-yes (leb b (a + 22)) (leb b 708) (x .1) in
-    record { up = leb→le a b (x .0); close = leb→le b (a + 22) (y .0); inside = leb→le b 708 (y .1) }
+    let x = and-yes (leb a b) (leb b (a + 24) && leb b 1007) t in
+    let y = and-yes (leb b (a + 24)) (leb b 1007) (x .1) in
+    record { up = leb→le a b (x .0); close = leb→le b (a + 24) (y .0); inside = leb→le b 1007 (y .1) }
 
 nears-at : (l : List ℕ) → T (nears l) → (k : ℕ) → suc k < length l → Near (getD l k 0) (getD l (suc k) 0)
 nears-at [] t k h = absurd (not-suc-le-zero h)
@@ -37,11 +37,11 @@ nears-at (a ∷ []) t k h = absurd (not-suc-le-zero (le-of-suc-le-suc h))
 nears-at (a ∷ b ∷ l) t zero h = near-is a b (and-yes (near a b) (nears (b ∷ l)) t .0)
 nears-at (a ∷ b ∷ l) t (suc k) h = nears-at (b ∷ l) (and-yes (near a b) (nears (b ∷ l)) t .1) k (le-of-suc-le-suc h)
 
--- a name, with the blank before it, has at most 22 bytes
-pub name-near : (k : ℕ) → k < 49 → Near (getD ends k 0) (getD ends (suc k) 0)
+-- a name, with the blank before it, has at most 24 bytes
+pub name-near : (k : ℕ) → k < 74 → Near (getD ends k 0) (getD ends (suc k) 0)
 name-near k h = nears-at ends tt k (omega arith)
 
-pub name-short : (k : ℕ) → k < 49 → length (nameAt k) ≤ 22
+pub name-short : (k : ℕ) → k < 74 → length (nameAt k) ≤ 24
 name-short k h =
     let n = name-near k h in
     omega (arith, n .up, n .close, n .inside, length-slice (getD ends k 0) (getD ends (suc k) 0) names (n .inside))

@@ -19,7 +19,7 @@ use Rattle.text.specs.Command.{nameOf, lineOf}
 use Rattle.text.specs.Shown.{placeOf, nameAt, listOf, Tells}
 use Rattle.text.specs.Put.{lineFrom}
 
-pub placed : (c : Command) → (placeOf c < 49) × (nameAt (placeOf c) ≡ 32 ∷ nameOf c) × (tagOf the-type c ≡ placeOf c)
+pub placed : (c : Command) → (placeOf c < 74) × (nameAt (placeOf c) ≡ 32 ∷ nameOf c) × (tagOf the-type c ≡ placeOf c)
 placed (Draw a b c d e f) = (lit< tt, refl, refl)
 placed (DrawIndexed a b c d e f g h) = (lit< tt, refl, refl)
 placed (DrawIndirect a b c d) = (lit< tt, refl, refl)

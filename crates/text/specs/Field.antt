@@ -7,8 +7,10 @@ use Rattle.numbers.specs.Convert.{bits32}
 use Rattle.records.specs.declared.command.OptionU32.{OptionU32}
 use Rattle.records.specs.declared.command.OptionU32.the-variants.{None, Some}
 use Rattle.text.specs.declared.field.Field.{Field}
-use Rattle.text.specs.declared.field.Field.the-variants.{Number, Long, Signed, Flag, Float, Bits, Optional, Buffer, Absent}
-use Rattle.text.specs.Digits.{decimal, hex, signed, dash}
+use Rattle.text.specs.declared.field.Field.the-variants.{Number, Long, Signed, Flag, Float, Bits, Optional, Buffer, Absent, Text}
+use Rattle.text.specs.declared.field.Word.{Word}
+use Rattle.text.specs.declared.field.Word.the-variants.{DirtyMask, ActiveFirstInstance, State}
+use Rattle.text.specs.Digits.{ascii, decimal, hex, signed, dash}
 
 -- a flag: 0 or 1
 abbrev pub flagByte : Bool → ℕ
@@ -24,7 +26,13 @@ optional (Some n) = decimal n
 abbrev pub presentOf : ℕ → OptionU32
 presentOf n = cond (eqb n 0) None (Some n)
 
--- u, u of 64 bits, i, b, x, X, o, o of a buffer, none
+-- a word between the fields
+abbrev pub wordText : Word → List ℕ
+wordText DirtyMask = ascii "dirty_mask"
+wordText ActiveFirstInstance = ascii "active_first_instance"
+wordText State = ascii "state"
+
+-- u, u of 64 bits, i, b, x, X, o, o of a buffer, none, a word
 abbrev pub fieldText : Field → List ℕ
 fieldText (Number n) = decimal n
 fieldText (Long n) = decimal n
@@ -35,6 +43,7 @@ fieldText (Bits n) = hex n
 fieldText (Optional o) = optional o
 fieldText (Buffer n) = optional (presentOf n)
 fieldText Absent = dash
+fieldText (Text w) = wordText w
 
 -- fields in a row, each after a blank
 unfoldable pub spaced : List Field → List ℕ

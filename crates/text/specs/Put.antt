@@ -13,6 +13,10 @@ pub record Put (text l : List ℕ) (at : ℕ) (m : List ℕ) (r : ℕ) : Type 0 
   pub place : r + length text ≡ at
   pub holds : drop r m ≡ text ++ drop at l
 
+-- a blank and the name, the fields, and a newline
+abbrev pub bodyOf : Shown → List ℕ
+bodyOf s = nameAt (s .name) ++ (spaced (listOf s) ++ (10 ∷ []))
+
 -- the line of what is shown of a command
 abbrev pub lineFrom : ℕ → Shown → List ℕ
-lineFrom n s = decimal n ++ (nameAt (s .name) ++ (spaced (listOf s) ++ (10 ∷ [])))
+lineFrom n s = decimal n ++ bodyOf s

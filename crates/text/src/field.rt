@@ -1,4 +1,4 @@
-// What is shown of a command: the place of its name and its fields.
+// What is shown of a command, or of a place of the state: the place of its name and its fields.
 ghost use mathlib.Core.Path.{_≡_};
 ghost use mathlib.Core.List.{[], _∷_};
 ghost use Rattle.text.specs.declared.field.Field.the-variants.{Number};
@@ -24,6 +24,14 @@ pub enum Field {
     Buffer(u32),
     // none
     Absent,
+    Text(Word),
+}
+
+// A word that is printed as it stands.
+pub enum Word {
+    DirtyMask,
+    ActiveFirstInstance,
+    State,
 }
 
 // An element of an array is a struct.

@@ -6,9 +6,9 @@ ghost use lib.ListN.{length, drop};
 ghost use Rattle.text.specs.Command.{lineOf};
 ghost use Rattle.text.specs.Wrote.{pasted, wroteOf};
 
-mod field;
-mod put;
-mod shown;
+pub mod field;
+pub mod put;
+pub mod shown;
 
 use crate::put::put_line;
 use crate::shown::shown;
@@ -31,7 +31,7 @@ pub fn write_command(out: &mut [u8], at: usize, number: u64, command: Command) -
 }
 
 // Copies what stands in `line` from `start` on into `out` from `at` on, whole or not at all.
-fn paste(out: &mut [u8], at: usize, line: &[u8], start: usize) -> Wrote
+pub fn paste(out: &mut [u8], at: usize, line: &[u8], start: usize) -> Wrote
     requires { ⌜ start ≤ length (now line) ⌝ }
     ensures { λ r. ⌜ (now (out .exit) ≡ pasted (now (out .entry)) at (drop start (now (line .entry)))) × (r ≡ wroteOf (now (out .entry)) at (drop start (now (line .entry)))) ⌝ }
 {

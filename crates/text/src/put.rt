@@ -2,19 +2,22 @@
 // on, and gives where the whole begins.
 ghost use mathlib.Core.Path.{_≡_};
 ghost use mathlib.Core.List.{[], _∷_, _++_};
-ghost use Prim.Native.Nat.{_≤_, _<_};
+ghost use Prim.Native.Nat.{_+_, _≤_, _<_};
 ghost use lib.ListN.{length, getD};
+ghost use lib.Seq.{slice};
 ghost use Rattle.text.specs.Digits.{decimal, hexDigit, hex, signed};
-ghost use Rattle.text.specs.Field.{flagByte, presentOf, optional, fieldText, spaced};
+ghost use Rattle.text.specs.Field.{flagByte, presentOf, optional, wordText, fieldText, spaced};
 ghost use Rattle.text.specs.Shown.{names, ends, nameAt, listOf};
-ghost use Rattle.text.specs.Put.{Put, lineFrom};
+ghost use Rattle.text.specs.Put.{Put, bodyOf, lineFrom};
 use crate::field::Field;
 use crate::field::Item;
 use crate::field::Shown;
+use crate::field::Word;
 use records::command::OptionU32;
 
-// The names in the order of the commands, each after a blank.
-const NAMES: [u8; 708] =
+// The names in the order of the commands, those of the state's rows, and three words, each after a
+// blank.
+const NAMES: [u8; 1007] =
     *b" Draw DrawIndexed DrawIndirect DrawIndexedIndirect Dispatch DispatchIndirect ClearBuffer \
     CopyBufferToBuffer SetIndexBuffer BeginQuery EndQuery TimestampQuery CopyQueryResults \
     ResetFramebuffer BindAttachment ResolveAttachment InvalidateAttachments SetDrawColorBuffers \
@@ -23,10 +26,13 @@ const NAMES: [u8; 708] =
     SetDepthBias ConfigureDepthStencil SetAlphaToCoverage SetVertexAttribute \
     UnsetVertexAttribute SetVertexBuffer SetProgram SetPrimitive SetBlendConstant \
     SetColorTarget BindBuffer BindSampler BindTexture BindImage PushDebugGroup PopDebugGroup \
-    SetImmediates SetClipDistances";
+    SetImmediates SetClipDistances topology primitive index slot attribute target stencil front \
+    stencil back bias alpha_to_coverage sampler texture_slot render_size resolve invalidate \
+    has_pass_label instance_mask first_instance_location descriptor word end_of_pass_timestamp \
+    clip_distance_count dirty_mask active_first_instance state";
 
 // Where each of them begins, and the end of the last.
-const ENDS: [usize; 50] = [
+const ENDS: [usize; 75] = [
     0,
     5,
     17,
@@ -77,17 +83,42 @@ const ENDS: [usize; 50] = [
     677,
     691,
     708,
+    717,
+    727,
+    733,
+    738,
+    748,
+    755,
+    769,
+    782,
+    787,
+    805,
+    813,
+    826,
+    838,
+    846,
+    857,
+    872,
+    886,
+    910,
+    921,
+    926,
+    948,
+    968,
+    979,
+    1001,
+    1007,
 ];
 
 fn name_end(place: usize) -> usize
-    requires { ⌜ place < 50 ⌝ }
+    requires { ⌜ place < 75 ⌝ }
     ensures { λ r. ⌜ r ≡ getD ends place 0 ⌝ }
 {
     ENDS[place]
 }
 
 fn name_byte(i: usize) -> u8
-    requires { ⌜ i < 708 ⌝ }
+    requires { ⌜ i < 1007 ⌝ }
     ensures { λ r. ⌜ r ≡ getD names i 0 ⌝ }
 {
     NAMES[i]
@@ -194,6 +225,7 @@ fn put_field(line: &mut [u8], at: usize, field: Field) -> usize
         Field::Optional(o) => put_optional(line, at, o),
         Field::Buffer(n) => put_optional(line, at, present(n)),
         Field::Absent => put(line, at, b'-'),
+        Field::Text(w) => put_word(line, at, w),
     }
 }
 
@@ -222,13 +254,12 @@ fn put_fields(line: &mut [u8], at: usize, shown: Shown) -> usize
     i
 }
 
-// A blank and the name at this place.
-fn put_name(line: &mut [u8], at: usize, place: usize) -> usize
-    requires { ⌜ (22 ≤ at) × (at ≤ length (now line)) × (place < 49) ⌝ }
-    ensures { λ r. ⌜ Put (nameAt place) (now (line .entry)) at (now (line .exit)) r ⌝ }
+// The bytes of the names from `from` on, up to `to`.
+fn put_part(line: &mut [u8], at: usize, from: usize, to: usize) -> usize
+    requires { ⌜ (at ≤ length (now line)) × (from ≤ to) × (to ≤ 1007) × (to ≤ from + at) ⌝ }
+    ensures { λ r. ⌜ Put (slice from to names) (now (line .entry)) at (now (line .exit)) r ⌝ }
 {
-    let from = name_end(place);
-    let mut k = name_end(place + 1);
+    let mut k = to;
     let mut i = at;
     while k > from {
         k -= 1;
@@ -237,14 +268,43 @@ fn put_name(line: &mut [u8], at: usize, place: usize) -> usize
     i
 }
 
-// A whole line, at the end of `line`.
-pub fn put_line(line: &mut [u8], number: u64, shown: Shown) -> usize
-    requires { ⌜ (length (now line) ≡ 384) × (shown .name < 49) × (shown .count ≤ 14) ⌝ }
-    ensures { λ r. ⌜ Put (lineFrom number shown) (now (line .entry)) 384 (now (line .exit)) r ⌝ }
+pub fn put_word(line: &mut [u8], at: usize, word: Word) -> usize
+    requires { ⌜ (21 ≤ at) × (at ≤ length (now line)) ⌝ }
+    ensures { λ r. ⌜ Put (wordText word) (now (line .entry)) at (now (line .exit)) r ⌝ }
+{
+    match word {
+        Word::DirtyMask => put_part(line, at, 969, 979),
+        Word::ActiveFirstInstance => put_part(line, at, 980, 1001),
+        Word::State => put_part(line, at, 1002, 1007),
+    }
+}
+
+// A blank and the name at this place.
+fn put_name(line: &mut [u8], at: usize, place: usize) -> usize
+    requires { ⌜ (24 ≤ at) × (at ≤ length (now line)) × (place < 74) ⌝ }
+    ensures { λ r. ⌜ Put (nameAt place) (now (line .entry)) at (now (line .exit)) r ⌝ }
+{
+    let from = name_end(place);
+    let to = name_end(place + 1);
+    put_part(line, at, from, to)
+}
+
+// A name, its fields and the end of the line, at the end of `line`.
+pub fn put_shown(line: &mut [u8], shown: Shown) -> usize
+    requires { ⌜ (length (now line) ≡ 384) × (shown .name < 74) × (shown .count ≤ 14) ⌝ }
+    ensures { λ r. ⌜ Put (bodyOf shown) (now (line .entry)) 384 (now (line .exit)) r ⌝ }
 {
     let place = shown.name;
     let end = put(line, 384, b'\n');
     let fields = put_fields(line, end, shown);
-    let name = put_name(line, fields, place);
-    put_decimal(line, name, number)
+    put_name(line, fields, place)
+}
+
+// A command's line, at the end of `line`.
+pub fn put_line(line: &mut [u8], number: u64, shown: Shown) -> usize
+    requires { ⌜ (length (now line) ≡ 384) × (shown .name < 74) × (shown .count ≤ 14) ⌝ }
+    ensures { λ r. ⌜ Put (lineFrom number shown) (now (line .entry)) 384 (now (line .exit)) r ⌝ }
+{
+    let i = put_shown(line, shown);
+    put_decimal(line, i, number)
 }

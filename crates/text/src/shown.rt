@@ -428,7 +428,7 @@ fn is_instance(step: VertexStepMode) -> bool
     }
 }
 
-fn is_integer(kind: VertexAttribKind) -> bool
+pub fn is_integer(kind: VertexAttribKind) -> bool
     ensures { λ r. ⌜ r ≡ isInteger kind ⌝ }
 {
     match kind {

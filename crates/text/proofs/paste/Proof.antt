@@ -1,19 +1,17 @@
 -- `text::paste` meets its contract: after i turns the first i bytes of the text are copied. Assumes nothing.
-use Prim.Native.Nat.{ℕ, zero-le, _+_, _-_, _≤_, _<_}
+use Prim.Native.Nat.{ℕ, zero-le, _+_, _-_, _≤_}
 use native.Mathlib.Numerals.{add-one}
 use native.Mathlib.Omega.{arith}
-use mathlib.Core.Path.{_≡_, refl, sym, ap, _∙_}
-use mathlib.Core.List.{List, _++_}
-use lib.ListN.{length, take, drop, set, getD, length-drop}
+use mathlib.Core.Path.{_≡_, sym, ap, _∙_}
+use mathlib.Core.List.{List}
+use lib.ListN.{length, drop, set, getD, length-drop}
 use lib.Seq.{paste, paste-zero, paste-suc, length-paste, take-length, getD-drop}
-use borrow.Author.Tests.{le-leb, lt-leb}
-use Rattle.text.specs.declared.Wrote.the-variants.{Next, NoRoom}
+use borrow.Author.Tests.{le-leb}
+use Rattle.text.specs.declared.Wrote.the-variants.{Next}
 use Rattle.text.specs.Wrote.{pasted, wroteOf}
+use Rattle.text.proofs.Room.{no-room}
 use Rattle.text.proofs.paste.Statement.{statement}
 use Rattle.text.proofs.paste.Tie as tie
-
-no-room : (out : List ℕ) (at : ℕ) (t : List ℕ) → length out < at + length t → (out ≡ pasted out at t) × (NoRoom ≡ wroteOf out at t)
-no-room out at t h = let e = lt-leb (at + length t) (length out) h in (rw e, rw e)
 
 whole : (out : List ℕ) (at : ℕ) (t : List ℕ) (i n : ℕ) → i ≡ length t → n ≡ length t → at + length t ≤ length out
     → (paste out at t i ≡ pasted out at t) × (Next (at + n) ≡ wroteOf out at t)

@@ -19,7 +19,7 @@ plan-one-requires c κs = search needs
 
 returns : tie.Need-returns
 unfolding outcomeOf
-returns c = 
+returns c =
     let a = c .before .before .before .before .args in
     let k = rw (c .before .in-phase .ensures, c .before .before .in-compute .ensures) at (c .plan-one .ensures) in
     rw (not-none (eqb (a .x) 0 || (eqb (a .y) 0 || eqb (a .z) 0)) (Dispatch (a .x) (a .y) (a .z))) at k

@@ -1,10 +1,9 @@
 -- `text::put::put_decimal` meets its contract: what is left to put are the digits of `rest`. Assumes nothing.
-use Prim.Native.Nat.{ℕ, _≤_, _<_, _+_, _%_, _/_}
+use Prim.Native.Nat.{_≤_, _<_}
 use native.Mathlib.Nat.{le-refl}
 use native.Mathlib.Omega.{arith}
-use mathlib.Core.Path.{_≡_, _∙_}
-use mathlib.Core.List.{List, [], _∷_, _++_}
-use lib.ListN.{length, length-append}
+use mathlib.Core.Path.{_∙_}
+use lib.ListN.{length}
 use Rattle.text.specs.Digits.{decimal}
 use Rattle.text.proofs.Puts.{Going, going-start, going-put, going-end, going-room}
 use Rattle.text.proofs.Digits.{decimal-last, decimal-step, decimal-long}

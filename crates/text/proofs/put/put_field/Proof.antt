@@ -70,6 +70,12 @@ enum-told c = search needs
 put-requires-2 : tie.Need-put-requires-2
 put-requires-2 c κs = search needs
 
+enum-known-field-9 : tie.Need-enum-known-field-9
+enum-known-field-9 c = search needs
+
+put-word-requires : tie.Need-put-word-requires
+put-word-requires c κs = search needs
+
 same-length : tie.Need-same-length
 same-length c = search needs
 
@@ -132,6 +138,12 @@ same-length-9 c = search needs
 returns-9 : tie.Need-returns-9
 returns-9 c = rw (c .before .before .before .before .enum-told .given .1) (c .before .before .put2 .ensures)
 
+same-length-10 : tie.Need-same-length-10
+same-length-10 c = search needs
+
+returns-10 : tie.Need-returns-10
+returns-10 c = rw (c .before .before .before .before .before .field9 .given .1) (c .before .before .put-word .ensures)
+
 pub put-field-spec : {M : Type 1} → statement M
 put-field-spec =
     tie.close
@@ -158,6 +170,8 @@ put-field-spec =
     put-optional-requires-2
     enum-told
     put-requires-2
+    enum-known-field-9
+    put-word-requires
     same-length
     returns
     same-length-2
@@ -175,4 +189,6 @@ put-field-spec =
     same-length-8
     returns-8
     same-length-9
-    returns-9)
+    returns-9
+    same-length-10
+    returns-10)

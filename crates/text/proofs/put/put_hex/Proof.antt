@@ -1,5 +1,4 @@
 -- `text::put::put_hex` meets its contract: what is left to put are the last k digits of `rest`. Assumes nothing.
-use Prim.Native.Nat.{ℕ, _≤_, _<_}
 use native.Mathlib.Omega.{arith}
 use Rattle.text.specs.Digits.{hex, hexIn}
 use Rattle.text.proofs.Puts.{Going, going-start, going-put, going-end, going-room}

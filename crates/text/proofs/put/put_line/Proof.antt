@@ -1,70 +1,27 @@
--- `text::put::put_line` meets its contract: four texts, each in front of the last. Assumes nothing.
+-- `text::put::put_line` meets its contract: the number in front of the rest. Assumes nothing.
 use native.Mathlib.Omega.{arith}
-use mathlib.Core.Path.{_∙_}
-use mathlib.Core.List.{[], _∷_, _++_}
-use lib.ListN.{length-append}
-use Rattle.text.specs.Field.{spaced}
-use Rattle.text.specs.Shown.{listOf, nameAt}
 use Rattle.text.proofs.Puts.{put-then, put-room}
-use Rattle.text.proofs.Fields.{shown-short}
-use Rattle.text.proofs.Names.{name-short}
+use Rattle.text.proofs.Fields.{body-short}
 use borrow.Author.Needs.{needs}
 use Rattle.text.proofs.put.put_line.Statement.{statement}
 use Rattle.text.proofs.put.put_line.Tie as tie
 
-put-requires : tie.Need-put-requires
-put-requires c κs = search needs
-
-put-fields-requires : tie.Need-put-fields-requires
-put-fields-requires c κs = search needs
-
-put-name-requires : tie.Need-put-name-requires
-put-name-requires c κs =
-    let q = c .before .before .before in
-    let p = q .before .before .before .before in
-    let s = p .before .before .before in
-    let f = spaced (listOf (s .args .shown)) in
-    let m = put-room 22 (put-then (p .put .ensures) (q .put-fields .ensures)) (q .put-fields .kept .0 ∙ p .put .kept .0)
-    (omega (arith, shown-short (s .args .shown) (s .pre .2), length-append f (10 ∷ []))) (omega (arith, s .pre .0)) in
-    (m .0, m .1, s .pre .1)
+put-shown-requires : tie.Need-put-shown-requires
+put-shown-requires c κs = search needs
 
 put-decimal-requires : tie.Need-put-decimal-requires
 put-decimal-requires c κs =
-    let n = c .before .before .before in
-    let q = n .before .before .before .before in
-    let p = q .before .before .before .before in
+    let p = c .before .before .before in
     let s = p .before .before .before in
-    let f = spaced (listOf (s .args .shown)) in
-    let t = nameAt (s .args .shown .name) in
-    put-room 20 (put-then (put-then (p .put .ensures) (q .put-fields .ensures)) (n .put-name .ensures))
-    (n .put-name .kept .0 ∙ q .put-fields .kept .0 ∙ p .put .kept .0)
-    (omega (
-      arith,
-      shown-short (s .args .shown) (s .pre .2),
-      name-short (s .args .shown .name) (s .pre .1),
-      length-append f (10 ∷ []),
-      length-append t (f ++ (10 ∷ [])),
-    ))
+    put-room 20 (p .put-shown .ensures) (p .put-shown .kept .0)
+    (omega (arith, body-short (s .args .shown) (s .pre .1) (s .pre .2)))
     (omega (arith, s .pre .0))
 
 same-length : tie.Need-same-length
 same-length c = search needs
 
 returns : tie.Need-returns
-returns c =
-    let d = c .before .before in
-    let n = d .before .before .before .before in
-    let q = n .before .before .before .before in
-    let p = q .before .before .before .before in
-    put-then (put-then (put-then (p .put .ensures) (q .put-fields .ensures)) (n .put-name .ensures)) (d .put-decimal .ensures)
+returns c = put-then (c .before .before .before .before .before .before .put-shown .ensures) (c .before .before .put-decimal .ensures)
 
 pub put-line-spec : {M : Type 1} → statement M
-put-line-spec =
-    tie.close
-    (tie.spec
-    put-requires
-    put-fields-requires
-    put-name-requires
-    put-decimal-requires
-    same-length
-    returns)
+put-line-spec = tie.close (tie.spec put-shown-requires put-decimal-requires same-length returns)

@@ -1,0 +1,24 @@
+-- `pass::render::to_external` meets its contract: a place that passes a test is a place of the mask. Assumes nothing.
+use mathlib.Core.Path.{refl}
+use Rattle.records.specs.declared.pass.ColorPlace.{ColorPlace}
+use Rattle.pass.specs.Render.{placesOf, noPlace, filledWith, isExternal}
+use Rattle.pass.specs.Gather.{some-places}
+use Rattle.pass.proofs.Long.{places-few}
+use borrow.Author.Needs.{needs}
+use Rattle.pass.proofs.render.to_external.Statement.{statement}
+use Rattle.pass.proofs.render.to_external.Tie as tie
+
+survey-requires : tie.Need-survey-requires
+survey-requires c κs = search needs
+
+returns : tie.Need-returns
+returns c =
+    let s = c .before .before in
+    let d = s .args .d in
+    rw (
+      c .before .survey .ensures,
+      some-places (λ (p : ColorPlace). filledWith isExternal (p .attachment)) noPlace refl 8 (placesOf d) (places-few d _ (s .good .1 .0)),
+    )
+
+pub to-external-spec : {M : Type 1} → statement M
+to-external-spec = tie.close (tie.spec survey-requires returns)

@@ -1,0 +1,4 @@
+pub mod Long
+pub mod Choice
+pub mod Target
+pub mod Ladder

@@ -1,0 +1,79 @@
+-- `pipeline::vertex::attribute_slots` meets its contract. Invariant: the mask of the slots of the counted attributes from `left` on. Measure: `left`. Assumes nothing.
+use Prim.Native.Nat.{_≤_, min}
+use mathlib.Core.Path.{_≡_, _∙_}
+use native.Mathlib.Omega.{arith}
+use borrow.Author.Needs.{needs}
+use lib.ListN.{length, take, drop}
+use Rattle.records.specs.Start.{startAttribute}
+use Rattle.records.proofs.Scanning.{none-behind, one-counted}
+use Rattle.pipeline.specs.Slots.{slotsMask, slots-are}
+use Rattle.pipeline.proofs.vertex.attribute_slots.Statement.{statement}
+use Rattle.pipeline.proofs.vertex.attribute_slots.Tie as tie
+
+abbrev Inv-loop : tie.InvT-loop
+Inv-loop count attributes left₀ slots₀ left slots = (left ≤ min count 16) × (slots ≡ slotsMask (drop left (take count attributes)))
+
+abbrev μ-loop : tie.MeasureT-loop
+μ-loop count attributes left₀ slots₀ left slots = left
+
+within-requires : tie.Need-within-requires Inv-loop μ-loop
+within-requires c κs = search needs
+
+loop-holds : tie.Need-loop-holds Inv-loop μ-loop
+unfolding slotsMask
+loop-holds c =
+    let s = c .before in
+    let e : length (s .args .t1) ≡ 16 = s .good .0 .1 .0 .1 in
+    (omega arith, rw (c .within .ensures, none-behind (s .args .t1) (s .args .count) 16 e))
+
+sub-left : tie.Need-sub-left Inv-loop μ-loop
+sub-left c = omega arith
+
+mul-a : tie.Need-mul-a Inv-loop μ-loop
+mul-a c = omega arith
+
+array-copy-out-a : tie.Need-array-copy-out-a Inv-loop μ-loop
+array-copy-out-a c = omega arith
+
+set-if-requires : tie.Need-set-if-requires Inv-loop μ-loop
+set-if-requires c κs = search needs
+
+loop-less : tie.Need-loop-less Inv-loop μ-loop
+loop-less c = omega arith
+
+loop-again : tie.Need-loop-again Inv-loop μ-loop
+unfolding slotsMask
+loop-again c =
+    let s = c .before .before .before .before .before .before in
+    let l = c .before .before .before .before .loop in
+    let e : length (s .args .t1) ≡ 16 = s .good .0 .1 .0 .1 in (
+      omega arith,
+      rw (
+        one-counted (s .args .t1) (s .args .count) 16 (l .left) startAttribute e (c .before .before .before .loop-test .taken) (l .inv .0),
+        c .set-if .ensures,
+        l .inv .1,
+      ),
+    )
+
+returns : tie.Need-returns Inv-loop μ-loop
+returns c =
+    let a = c .before .before .before .args in
+    let l = c .before .loop in
+    let e : l .left ≡ 0 = omega arith in
+    (rw e at (l .inv .1)) ∙ slots-are (take (a .count) (a .t1))
+
+pub attribute-slots-spec : {M : Type 1} → statement M
+attribute-slots-spec =
+    tie.close
+    (tie.spec
+    Inv-loop
+    μ-loop
+    within-requires
+    loop-holds
+    sub-left
+    mul-a
+    array-copy-out-a
+    set-if-requires
+    loop-less
+    loop-again
+    returns)
