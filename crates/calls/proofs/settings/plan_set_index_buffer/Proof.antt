@@ -1,57 +1,64 @@
+-- `calls::settings::plan_set_index_buffer` meets its contract. Assumes nothing.
+use mathlib.Core.Bool.{Bool, false, not}
+use mathlib.Core.List.{List, [], _∷_}
+use mathlib.Core.Path.{_≡_, refl}
+use lib.Dec.{eqb}
+use Rattle.records.specs.declared.command.Command.{Command}
+use Rattle.records.specs.declared.command.Command.the-variants.{SetIndexBuffer}
+use Rattle.records.specs.declared.outcome.Conditions.{Conditions}
+use Rattle.calls.specs.Meaning.{inRender}
+use Rattle.calls.specs.Parts.{withDraw}
+use Rattle.calls.specs.Settings.{indexed}
+use Rattle.calls.specs.Step.{outcomeOf}
+use Rattle.calls.proofs.Owns.{alone}
+use Rattle.calls.proofs.Plans.{found, laid, next}
+use Rattle.calls.proofs.Moved.{draw-moved}
+use Rattle.records.specs.declared.command.Command.the-variants.{PopDebugGroup}
 use borrow.Author.Needs.{needs}
 use Rattle.calls.proofs.settings.plan_set_index_buffer.Statement.{statement}
 use Rattle.calls.proofs.settings.plan_set_index_buffer.Tie as tie
-use Rattle.calls.proofs.settings.plan_set_index_buffer.Reads as reads
-use Rattle.calls.proofs.settings.plan_set_index_buffer.Lts as lts
-use Rattle.calls.proofs.judge.commands_only.Reads as commands-only-reads
-use Rattle.calls.proofs.judge.judge.Reads as judge-reads
-use Rattle.calls.proofs.judge.list_rooms.Reads as list-rooms-reads
-use Rattle.calls.proofs.judge.spot_of.Reads as spot-of-reads
-use Rattle.calls.proofs.parts.with_draw.Reads as with-draw-reads
-use Rattle.calls.proofs.parts.with_progress.Reads as with-progress-reads
-use Rattle.calls.proofs.phase.in_phase_with.Reads as in-phase-with-reads
-use Rattle.calls.proofs.phase.in_render.Reads as in-render-reads
-use Rattle.calls.proofs.settings.indexed.Reads as indexed-reads
 
--- src/settings.rt:165:27
 in-render-requires : tie.Need-in-render-requires
 in-render-requires c κs = search needs
 
--- src/settings.rt:165:9
 in-phase-with-requires : tie.Need-in-phase-with-requires
 in-phase-with-requires c κs = search needs
 
--- src/settings.rt:166:9
 list-rooms-requires : tie.Need-list-rooms-requires
 list-rooms-requires c κs = search needs
 
--- src/settings.rt:167:9
 commands-only-requires : tie.Need-commands-only-requires
 commands-only-requires c κs = search needs
 
--- src/settings.rt:168:9
 judge-requires : tie.Need-judge-requires
 judge-requires c κs = search needs
 
--- src/settings.rt:169:9
 spot-of-requires : tie.Need-spot-of-requires
 spot-of-requires c κs = search needs
 
--- src/settings.rt:172:9
 indexed-requires : tie.Need-indexed-requires
 indexed-requires c κs = search needs
 
--- src/settings.rt:173:9
 with-progress-requires : tie.Need-with-progress-requires
 with-progress-requires c κs = search needs
 
--- src/settings.rt:174:9
 with-draw-requires : tie.Need-with-draw-requires
 with-draw-requires c κs = search needs
 
--- src/settings.rt:152:1
 returns : tie.Need-returns
-returns c = ?
+unfolding outcomeOf
+returns c = 
+    let a = c .before .before .before .before .before .before .before .before .before .before .before .before .args in
+    let s = a .s in
+    let cs : List Command = SetIndexBuffer (a .buffer) ∷ [] in
+    let asks : Conditions =
+    record { phase = not (inRender (s .progress .phase)); many = false; range = false; absent = eqb (a .buffer) 0; kind = false; sum = false; room = false } in
+    let k = found (a .room) s asks (s .progress .phase) cs _ _ _ _ (c .before .before .before .before .before .before .before .list-rooms .ensures) refl (c .before .before .before .before .before .before .commands-only .ensures)
+    (rw (c .before .before .before .before .before .before .before .before .in-phase-with .ensures, c .before .before .before .before .before .before .before .before .before .in-render .ensures) at (c .before .before .before .before .before .judge .ensures)) (c .before .before .before .before .spot-of .ensures) in
+    let new = indexed (a .offset) (a .format) (s .draw) in
+    let after = draw-moved _ _ new s _ _ _ _ (c .with-draw .ensures) (c .before .with-progress .ensures) (c .before .before .indexed .ensures) (k .sure) in
+    ((k .said, next (a .room) s asks (s .progress .phase) cs k (withDraw new s) _ after),
+    laid (a .room) s asks (s .progress .phase) cs _ _ _ (k .here) (k .many) (λ h i l. alone (SetIndexBuffer (a .buffer)) i l PopDebugGroup))
 
 pub plan-set-index-buffer-spec : {M : Type 1} → statement M
 plan-set-index-buffer-spec =
