@@ -25,7 +25,7 @@ use Rattle.records.specs.declared.pass.OptionView.the-variants as view
 use Rattle.records.specs.declared.pass.RenderPassDescriptor.{RenderPassDescriptor}
 use Rattle.records.specs.declared.pipeline.PrivateCapabilities.{PrivateCapabilities}
 use Rattle.pass.specs.Marks.{Lent, Label}
-use Rattle.pass.specs.Render.{noPlace, fullDepth, attachColors, clearColors, beginRenderCommands}
+use Rattle.pass.specs.Render.{noPlace, fullDepth, defaultFirst, attachColors, clearColors, beginRenderCommands}
 
 abbrev plain : PrivateCapabilities
 plain =
@@ -91,6 +91,10 @@ clear-counts : begins (noPlace ∷ cleared (Texture 7 3553) ∷ [])
     ∷ []
 unfolding beginRenderCommands attachColors clearColors testBit some? clampTo ofBits
 clear-counts = refl
+
+-- a default renderbuffer at another place does not make the framebuffer the default one
+default-later : defaultFirst (noPlace ∷ cleared DefaultRenderbuffer ∷ []) ≡ false
+default-later = refl
 
 -- the framebuffer is the default one by place 0
 default-first : begins (cleared DefaultRenderbuffer ∷ [])

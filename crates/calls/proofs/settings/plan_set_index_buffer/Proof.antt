@@ -47,7 +47,7 @@ with-draw-requires c κs = search needs
 
 returns : tie.Need-returns
 unfolding outcomeOf
-returns c = 
+returns c =
     let a = c .before .before .before .before .before .before .before .before .before .before .before .before .args in
     let s = a .s in
     let cs : List Command = SetIndexBuffer (a .buffer) ∷ [] in
@@ -56,9 +56,10 @@ returns c =
     let k = found (a .room) s asks (s .progress .phase) cs _ _ _ _ (c .before .before .before .before .before .before .before .list-rooms .ensures) refl (c .before .before .before .before .before .before .commands-only .ensures)
     (rw (c .before .before .before .before .before .before .before .before .in-phase-with .ensures, c .before .before .before .before .before .before .before .before .before .in-render .ensures) at (c .before .before .before .before .before .judge .ensures)) (c .before .before .before .before .spot-of .ensures) in
     let new = indexed (a .offset) (a .format) (s .draw) in
-    let after = draw-moved _ _ new s _ _ _ _ (c .with-draw .ensures) (c .before .with-progress .ensures) (c .before .before .indexed .ensures) (k .sure) in
-    ((k .said, next (a .room) s asks (s .progress .phase) cs k (withDraw new s) _ after),
-    laid (a .room) s asks (s .progress .phase) cs _ _ _ (k .here) (k .many) (λ h i l. alone (SetIndexBuffer (a .buffer)) i l PopDebugGroup))
+    let after = draw-moved _ _ new s _ _ _ _ (c .with-draw .ensures) (c .before .with-progress .ensures) (c .before .before .indexed .ensures) (k .sure) in (
+      (k .said, next (a .room) s asks (s .progress .phase) cs k (withDraw new s) _ after),
+      laid (a .room) s asks (s .progress .phase) cs _ _ _ (k .here) (k .many) (λ h i l. alone (SetIndexBuffer (a .buffer)) i l PopDebugGroup),
+    )
 
 pub plan-set-index-buffer-spec : {M : Type 1} → statement M
 plan-set-index-buffer-spec =
