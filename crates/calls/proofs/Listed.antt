@@ -1,4 +1,4 @@
--- From a plan that is right and written to the contract of a call that is handed the command list alone. Assumes nothing.
+-- From a plan that is right and written to the contract of a call that is handed the command list alone, or no run. Assumes nothing.
 use Prim.Native.Nat.{ℕ, zero, suc, _+_, _<_, _≤_}
 use mathlib.Core.Bool.{Bool, true, false, cond}
 use mathlib.Core.List.{List, [], _∷_, _++_, map, append-assoc, append-nil}
@@ -19,10 +19,10 @@ use Rattle.records.specs.declared.pipeline.PrivateCapabilities.{PrivateCapabili
 use Rattle.records.specs.declared.state.Answer.{Answer}
 use Rattle.records.specs.declared.state.State.{State}
 use Rattle.calls.specs.Call.{Call}
-use Rattle.calls.specs.Did.{Did, Runs, Lists, written, recordOf}
+use Rattle.calls.specs.Did.{Did, Runs, Lists, Keeps, written, recordOf}
 use Rattle.calls.specs.Judge.{taken}
 use Rattle.calls.specs.Meaning.{Meaning}
-use Rattle.calls.specs.Planned.{listRooms, Laid, Answered, outcomeIn, stateIn}
+use Rattle.calls.specs.Planned.{listRooms, noRooms, Laid, Answered, outcomeIn, stateIn}
 use Rattle.calls.specs.Step.{meaning, outcomeOf, callConditions, step}
 
 module _ {X Y : Type 0} (w : Y → X) where
@@ -108,3 +108,33 @@ module _ (caps : PrivateCapabilities) (s : State) (c : Call) (alone : (r : Rooms
 
       queries-same : queries ≡ written queries (s .progress .queries) (taken (outcomeOf rooms s m) (m .queries) [])
       queries-same = rw (no-queries, cond-none (accepted (outcomeOf rooms s m))) (sym (none-written queries (s .progress .queries)))
+
+-- the same of a call that is handed no run and appends nothing
+module _ (caps : PrivateCapabilities) (s : State) (c : Call) (alone : (r : Rooms) → meaning caps s c .handed r ≡ noRooms)
+    (no-commands : meaning caps s c .commands ≡ []) (no-bytes : meaning caps s c .bytes ≡ []) (no-queries : meaning caps s c .queries ≡ []) where
+  kept-outcome : (r : Rooms) → outcomeOf noRooms s (meaning caps s c) ≡ outcomeOf r s (meaning caps s c)
+  unfolding outcomeOf
+  kept-outcome r = rw (alone r, alone noRooms)
+
+  pub keeps-done : (a : Answer) → a .outcome ≡ outcomeOf noRooms s (meaning caps s c) → a .state ≡ taken (outcomeOf noRooms s (meaning caps s c)) (stateIn (meaning caps s c)) s → Keeps caps s c a
+  keeps-done a o st runs =
+      record {
+        outcome = o ∙ same;
+        state = st ∙ ap (λ (x : Outcome). taken x (stateIn (meaning caps s c)) s) same;
+        runs = λ i. record { commands = commands-same i; bytes = bytes-same i; queries = queries-same i };
+      }
+    where
+      rooms : Rooms
+      rooms = record { commands = length (runs .commands); bytes = length (runs .bytes); queries = length (runs .queries) }
+
+      same : outcomeOf noRooms s (meaning caps s c) ≡ outcomeOf rooms s (meaning caps s c)
+      same = kept-outcome rooms
+
+      commands-same : runs .commands ≡ written (runs .commands) (s .progress .commands) (map recordOf (taken (outcomeOf rooms s (meaning caps s c)) (meaning caps s c .commands) []))
+      commands-same = rw (no-commands, cond-none {X = Command} (accepted (outcomeOf rooms s (meaning caps s c)))) (sym (none-written (runs .commands) (s .progress .commands)))
+
+      bytes-same : runs .bytes ≡ written (runs .bytes) (s .progress .bytes) (taken (outcomeOf rooms s (meaning caps s c)) (meaning caps s c .bytes) [])
+      bytes-same = rw (no-bytes, cond-none {X = ℕ} (accepted (outcomeOf rooms s (meaning caps s c)))) (sym (none-written (runs .bytes) (s .progress .bytes)))
+
+      queries-same : runs .queries ≡ written (runs .queries) (s .progress .queries) (taken (outcomeOf rooms s (meaning caps s c)) (meaning caps s c .queries) [])
+      queries-same = rw (no-queries, cond-none {X = ℕ} (accepted (outcomeOf rooms s (meaning caps s c)))) (sym (none-written (runs .queries) (s .progress .queries)))

@@ -33,6 +33,11 @@ either-way : {X : Type 0} (t : Bool) (x : X) → cond t x x ≡ x
 either-way true x = refl
 either-way false x = refl
 
+-- a call that leaves the state but for its progress
+pub stays-put : (o : Outcome) (s : State) (p g : Progress) → p ≡ taken o g (s .progress) → withProgress p s ≡ taken o (withProgress g s) s
+stays-put o s p g e =
+    ap (λ (q : Progress). withProgress q s) e ∙ ap (withProgress (taken o g (s .progress))) (sym (either-way (accepted o) s)) ∙ moved-or-not o s s g
+
 none-below : {X : Type 0} {i : ℕ} → i < 0 → X
 none-below h = absurd (omega arith)
 

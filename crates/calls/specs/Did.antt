@@ -47,3 +47,7 @@ pub record Did (caps : PrivateCapabilities) (s : State) (r : Runs) (c : Call) (a
 abbrev pub Lists : PrivateCapabilities → State → Call → List Record → Answer → List Record → Type 0
 Lists caps s c l a l′ =
     (bytes queries : List ℕ) → Did caps s (record { commands = l; bytes = bytes; queries = queries }) c a (record { commands = l′; bytes = bytes; queries = queries })
+
+-- and of a call that is handed no run
+abbrev pub Keeps : PrivateCapabilities → State → Call → Answer → Type 0
+Keeps caps s c a = (runs : Runs) → Did caps s runs c a runs

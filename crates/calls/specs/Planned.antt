@@ -50,3 +50,10 @@ outcomeIn room s m = outcomeOf (listRooms room) s m
 
 abbrev pub stateIn : Meaning → State
 stateIn m = withProgress (progressAfter m) (m .after)
+
+-- a call that is handed no run, and what it appends
+abbrev pub noRooms : Rooms
+noRooms = record { commands = 4096; bytes = 65536; queries = 1024 }
+
+abbrev pub nothing : Counts
+nothing = commandsOnly 0

@@ -7,7 +7,7 @@ ghost use Rattle.records.specs.Check.{overRoom};
 ghost use Rattle.records.specs.Outcome.{accepted as acceptedOf};
 ghost use mathlib.Core.Bool.{cond};
 ghost use Rattle.calls.specs.Judge.{grown, judged, taken};
-ghost use Rattle.calls.specs.Planned.{listRooms, commandsOnly};
+ghost use Rattle.calls.specs.Planned.{listRooms, commandsOnly, noRooms, nothing as nothingOf};
 use records::check::Rooms;
 use records::check::state_conditions;
 use records::limits::MAX_BYTES;
@@ -123,6 +123,27 @@ pub fn list_rooms(room: usize) -> Rooms
         commands: room,
         bytes: MAX_BYTES,
         queries: MAX_QUERIES,
+    }
+}
+
+// The rooms of a call that is handed no run.
+pub fn no_rooms() -> Rooms
+    ensures { λ r. ⌜ r ≡ noRooms ⌝ }
+{
+    Rooms {
+        commands: MAX_COMMANDS,
+        bytes: MAX_BYTES,
+        queries: MAX_QUERIES,
+    }
+}
+
+pub fn nothing() -> Counts
+    ensures { λ r. ⌜ r ≡ nothingOf ⌝ }
+{
+    Counts {
+        commands: 0,
+        bytes: 0,
+        queries: 0,
     }
 }
 

@@ -3,6 +3,7 @@ pub mod dispatches;
 mod drawing;
 mod drawn;
 pub mod draws;
+pub mod encoding;
 pub mod judge;
 mod one;
 mod parts;
