@@ -1,6 +1,6 @@
 -- The verdict on a call, and what follows where it is carried through. Assumes nothing.
 use Prim.Native.Nat.{ℕ, _≤_}
-use mathlib.Core.Bool.{Bool, true, false, cond, _||_}
+use mathlib.Core.Bool.{Bool, true, false, cond, not, _||_}
 use mathlib.Core.Path.{_≡_, refl, sym, ap, _∙_}
 use native.Mathlib.Omega.{arith}
 use lib.Dec.{ltb}
@@ -22,6 +22,15 @@ bad e = let z : _≡_ {A = ℕ} 0 1 = cc in absurd (omega arith)
 pub neither : (t u : Bool) → t || u ≡ false → (t ≡ false) × (u ≡ false)
 neither true u e = bad (sym e)
 neither false u e = (refl, e)
+
+-- a test, and its opposite
+pub off : (t : Bool) → not t ≡ true → t ≡ false
+off true e = bad e
+off false e = refl
+
+pub on : (t : Bool) → not t ≡ false → t ≡ true
+on true e = refl
+on false e = bad (sym e)
 
 -- no condition holds
 pub record None (c : Conditions) : Type 0 where
@@ -79,6 +88,9 @@ module _ (rooms : Rooms) (s : State) (c : Conditions) (phase : Phase) (more : Co
   -- carried through: what it appends has room, and none of its own conditions holds
   pub fitting : accepted (judged rooms s c phase more) ≡ true → Within (grown (s .progress) phase more) rooms
   fitting e = within (grown (s .progress) phase more) rooms (neither (c .room) _ (neither (stateConditions s rooms .room) _ (none-holds _ e .room) .1) .1)
+
+  pub no-range : accepted (judged rooms s c phase more) ≡ true → c .range ≡ false
+  no-range e = neither (stateConditions s rooms .range) (c .range) (none-holds _ e .range) .1
 
   pub no-sum : accepted (judged rooms s c phase more) ≡ true → c .sum ≡ false
   no-sum e = none-holds _ e .sum

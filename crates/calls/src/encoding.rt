@@ -16,7 +16,6 @@ use crate::phase::in_open;
 use crate::phase::in_phase;
 use crate::phase::in_render;
 use records::check::state_conditions;
-use records::limits::MAX_VERTEX_BUFFERS;
 use records::outcome::Conditions;
 use records::outcome::either;
 use records::outcome::outcome_of;
@@ -27,6 +26,7 @@ use records::state::Progress;
 use records::state::State;
 use records::state::VertexSlot;
 use records::state::VertexState;
+use slots::slot_at;
 
 pub fn begin_encoding(caps: PrivateCapabilities, s: State) -> Answer
     ensures { λ r. ⌜ Keeps caps s begin-encoding r ⌝ }
@@ -65,5 +65,69 @@ pub fn end_encoding(caps: PrivateCapabilities, s: State) -> Answer
     let progress = v.progress;
     let outcome = v.outcome;
     let state = with_progress(s, progress);
+    Answer { outcome, state }
+}
+
+// The vertex part with slot i bound and dirty, or as it was.
+fn bound_slot(ok: bool, v: VertexState, i: u32, raw: u32, offset: u64) -> VertexState
+    ensures { λ r. ⌜ ((ok ≡ yes → i < 16) → r ≡ cond ok (boundSlot i raw offset v) v) ⌝ }
+{
+    if !ok {
+        return v;
+    }
+    if 16 <= i {
+        return v;
+    }
+    let at = i as usize;
+    let slot = slot_at(v, i);
+    let attributes = v.attributes;
+    let mut buffers = v.buffers;
+    buffers[at] = VertexSlot {
+        stride: slot.stride,
+        raw,
+        offset,
+    };
+    VertexState {
+        described: v.described,
+        bound: mask::set(v.bound, i),
+        by_instance: v.by_instance,
+        dirty_vbuf_mask: mask::set(v.dirty_vbuf_mask, i),
+        buffers,
+        attribute_count: v.attribute_count,
+        active_first_instance: v.active_first_instance,
+        instance_vbuf_mask: v.instance_vbuf_mask,
+        attributes,
+    }
+}
+
+pub fn set_vertex_buffer(
+    caps: PrivateCapabilities,
+    s: State,
+    index: u32,
+    buffer: u32,
+    offset: u64,
+) -> Answer
+    ensures { λ r. ⌜ Keeps caps s (set-vertex-buffer index buffer offset) r ⌝ }
+{
+    let p = s.progress;
+    let phase = p.phase;
+    let vertex = s.vertex;
+    let c = Conditions {
+        phase: !in_render(phase),
+        many: false,
+        range: 16 <= index,
+        absent: buffer == 0,
+        kind: false,
+        sum: false,
+        room: false,
+    };
+    let rooms = no_rooms();
+    let more = nothing();
+    let v = judge(rooms, s, c, phase, more);
+    let progress = v.progress;
+    let outcome = v.outcome;
+    let after = bound_slot(v.ok, vertex, index, buffer, offset);
+    let moved = with_progress(s, progress);
+    let state = with_vertex(moved, after);
     Answer { outcome, state }
 }
