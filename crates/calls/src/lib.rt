@@ -8,4 +8,5 @@ pub mod judge;
 mod one;
 mod parts;
 mod phase;
+pub mod queries;
 pub mod settings;
