@@ -4,3 +4,5 @@ pub mod Committing
 pub mod Filled
 pub mod Filling
 pub mod Listing
+pub mod Reading
+pub mod Slices
