@@ -1,18 +1,148 @@
-// `reset_queries`: it records nothing, and is refused like the others.
+// Queries of a set that is lent with its count: the three calls that record a command, and
+// `reset_queries`, which records none.
 ghost use mathlib.Core.Path.{_≡_};
-ghost use Rattle.calls.specs.Call.{reset-queries};
-ghost use Rattle.calls.specs.Did.{Keeps};
+ghost use mathlib.Core.Bool.{not, false as no};
+ghost use Rattle.calls.specs.Call.{begin-query, end-query, write-timestamp, reset-queries};
+ghost use Rattle.calls.specs.Did.{Keeps, Lists};
+ghost use Rattle.calls.specs.One.{OneOf};
+ghost use Rattle.calls.specs.Step.{beginQuery, endQuery, writeTimestamp};
 use crate::judge::judge;
 use crate::judge::no_rooms;
 use crate::judge::nothing;
+use crate::one::OnePlan;
+use crate::one::commit_one;
+use crate::one::plan_one;
 use crate::parts::with_progress;
 use crate::phase::not_closed;
+use pass::marks::over_run;
+use pass::marks::query_of;
+use records::command::Command;
+use records::command::Record;
 use records::outcome::Conditions;
 use records::pipeline::PrivateCapabilities;
 use records::state::Answer;
 use records::state::State;
 
-// The queries from `start` to `end` of a set that is lent with its count.
+// The phase, a number past the set, and a count above its run.
+fn query_asks(allowed: bool, range: bool, short: bool) -> Conditions
+    ensures { λ r. ⌜ r ≡ record { phase = not allowed; many = no; range = range; absent = no; kind = no; sum = no; room = short } ⌝ }
+{
+    Conditions {
+        phase: !allowed,
+        many: false,
+        range,
+        absent: false,
+        kind: false,
+        sum: false,
+        room: short,
+    }
+}
+
+fn plan_begin_query(
+    set: &[u32],
+    room: usize,
+    count: usize,
+    target: u32,
+    caps: PrivateCapabilities,
+    s: State,
+    index: u32,
+) -> OnePlan
+    ensures { λ r. ⌜ OneOf room s (beginQuery s (record { queries = record { run = now (set .entry); count = count }; target = target }) index) r ⌝ }
+{
+    let p = s.progress;
+    let phase = p.phase;
+    let range = count <= (index as usize);
+    let short = over_run(set, count);
+    let c = query_asks(not_closed(phase), range, short);
+    let query = query_of(set, count, index);
+    plan_one(room, s, c, true, Command::BeginQuery(query, target))
+}
+
+pub fn begin_query(
+    list: &mut [Record],
+    set: &[u32],
+    count: usize,
+    target: u32,
+    caps: PrivateCapabilities,
+    s: State,
+    index: u32,
+) -> Answer
+    ensures { λ r. ⌜ Lists caps s (begin-query (record { queries = record { run = now (set .entry); count = count }; target = target }) index) (now (list .entry)) r (now (list .exit)) ⌝ }
+{
+    let plan = plan_begin_query(set, list.len(), count, target, caps, s, index);
+    commit_one(list, plan)
+}
+
+fn plan_end_query(
+    set: &[u32],
+    room: usize,
+    count: usize,
+    target: u32,
+    caps: PrivateCapabilities,
+    s: State,
+    index: u32,
+) -> OnePlan
+    ensures { λ r. ⌜ OneOf room s (endQuery s (record { queries = record { run = now (set .entry); count = count }; target = target }) index) r ⌝ }
+{
+    let p = s.progress;
+    let phase = p.phase;
+    let range = count <= (index as usize);
+    let short = over_run(set, count);
+    let c = query_asks(not_closed(phase), range, short);
+    plan_one(room, s, c, true, Command::EndQuery(target))
+}
+
+pub fn end_query(
+    list: &mut [Record],
+    set: &[u32],
+    count: usize,
+    target: u32,
+    caps: PrivateCapabilities,
+    s: State,
+    index: u32,
+) -> Answer
+    ensures { λ r. ⌜ Lists caps s (end-query (record { queries = record { run = now (set .entry); count = count }; target = target }) index) (now (list .entry)) r (now (list .exit)) ⌝ }
+{
+    let plan = plan_end_query(set, list.len(), count, target, caps, s, index);
+    commit_one(list, plan)
+}
+
+fn plan_write_timestamp(
+    set: &[u32],
+    room: usize,
+    count: usize,
+    target: u32,
+    caps: PrivateCapabilities,
+    s: State,
+    index: u32,
+) -> OnePlan
+    ensures { λ r. ⌜ OneOf room s (writeTimestamp s (record { queries = record { run = now (set .entry); count = count }; target = target }) index) r ⌝ }
+{
+    let p = s.progress;
+    let phase = p.phase;
+    let range = count <= (index as usize);
+    let short = over_run(set, count);
+    let c = query_asks(not_closed(phase), range, short);
+    let query = query_of(set, count, index);
+    plan_one(room, s, c, true, Command::TimestampQuery(query))
+}
+
+pub fn write_timestamp(
+    list: &mut [Record],
+    set: &[u32],
+    count: usize,
+    target: u32,
+    caps: PrivateCapabilities,
+    s: State,
+    index: u32,
+) -> Answer
+    ensures { λ r. ⌜ Lists caps s (write-timestamp (record { queries = record { run = now (set .entry); count = count }; target = target }) index) (now (list .entry)) r (now (list .exit)) ⌝ }
+{
+    let plan = plan_write_timestamp(set, list.len(), count, target, caps, s, index);
+    commit_one(list, plan)
+}
+
+// The queries from `start` to `end` of the set.
 pub fn reset_queries(
     set: &[u32],
     count: usize,
@@ -26,16 +156,9 @@ pub fn reset_queries(
 {
     let p = s.progress;
     let phase = p.phase;
-    let short = set.len() < count;
-    let c = Conditions {
-        phase: !not_closed(phase),
-        many: false,
-        range: (end < start) | (count < (end as usize)),
-        absent: false,
-        kind: false,
-        sum: false,
-        room: short,
-    };
+    let range = (end < start) | (count < (end as usize));
+    let short = over_run(set, count);
+    let c = query_asks(not_closed(phase), range, short);
     let rooms = no_rooms();
     let more = nothing();
     let v = judge(rooms, s, c, phase, more);

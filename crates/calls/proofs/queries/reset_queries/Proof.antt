@@ -10,8 +10,14 @@ use borrow.Author.Needs.{needs}
 use Rattle.calls.proofs.queries.reset_queries.Statement.{statement}
 use Rattle.calls.proofs.queries.reset_queries.Tie as tie
 
+over-run-requires : tie.Need-over-run-requires
+over-run-requires c κs = search needs
+
 not-closed-requires : tie.Need-not-closed-requires
 not-closed-requires c κs = search needs
+
+query-asks-requires : tie.Need-query-asks-requires
+query-asks-requires c κs = search needs
 
 no-rooms-requires : tie.Need-no-rooms-requires
 no-rooms-requires c κs = search needs
@@ -28,10 +34,10 @@ with-progress-requires c κs = search needs
 returns : tie.Need-returns
 unfolding outcomeOf
 returns c =
-    let a = c .before .before .before .before .before .before .before .before .args in
+    let a = c .before .before .before .before .before .before .before .before .before .before .args in
     let set : QuerySet = record { queries = record { run = now (a .set); count = a .count }; target = a .target } in
     let m = resetQueries (a .s) set (a .start) (a .end) in
-    let k = rw (c .before .before .before .before .no-rooms .ensures, c .before .before .before .nothing .ensures, c .before .before .before .before .before .not-closed .ensures) at (c .before .before .judge .ensures) in
+    let k = rw (c .before .before .before .before .no-rooms .ensures, c .before .before .before .nothing .ensures, c .before .before .before .before .before .query-asks .ensures, c .before .before .before .before .before .before .not-closed .ensures, c .before .before .before .before .before .before .before .over-run .ensures) at (c .before .before .judge .ensures) in
     keeps-done (a .caps) (a .s) (reset-queries set (a .start) (a .end)) (λ r. refl) refl refl refl _ (k .0)
     (c .with-progress .ensures ∙ stays-put (outcomeOf noRooms (a .s) m) (a .s) _ (progressAfter m) (k .2))
 
@@ -39,7 +45,9 @@ pub reset-queries-spec : {M : Type 1} → statement M
 reset-queries-spec =
     tie.close
     (tie.spec
+    over-run-requires
     not-closed-requires
+    query-asks-requires
     no-rooms-requires
     nothing-requires
     judge-requires
