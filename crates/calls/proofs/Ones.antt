@@ -27,7 +27,8 @@ use Rattle.calls.specs.declared.one.OnePlan.{OnePlan}
 use Rattle.calls.specs.Call.{Call}
 use Rattle.calls.specs.Did.{Lists, recordOf}
 use Rattle.calls.specs.Judge.{taken}
-use Rattle.calls.specs.One.{OneFor, OneOf, oneAnswer, only}
+use Rattle.pipeline.specs.Fixed.{only}
+use Rattle.calls.specs.One.{OneFor, OneOf, oneAnswer}
 use Rattle.calls.specs.Planned.{listRooms}
 use Rattle.calls.specs.Step.{meaning}
 use Rattle.calls.specs.Transfers.{dispatchCommands}

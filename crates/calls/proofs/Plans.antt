@@ -16,7 +16,7 @@ use Rattle.records.specs.declared.state.State.{State}
 use Rattle.records.specs.declared.check.Rooms.{Rooms}
 use Rattle.calls.specs.declared.judge.Counts.{Counts}
 use Rattle.calls.specs.Judge.{grown, judged, taken}
-use Rattle.calls.specs.One.{only}
+use Rattle.pipeline.specs.Fixed.{only}
 use Rattle.calls.specs.Parts.{withProgress}
 use Rattle.calls.specs.Planned.{listRooms, commandsOnly, Laid}
 use Rattle.calls.proofs.Judged.{fitting}

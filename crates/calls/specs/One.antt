@@ -1,7 +1,6 @@
 -- A plan of one command. Definitions only.
 use Prim.Native.Nat.{ℕ}
-use mathlib.Core.Bool.{Bool, cond}
-use mathlib.Core.List.{List, [], _∷_}
+use mathlib.Core.List.{List}
 use Rattle.records.specs.declared.command.Command.{Command}
 use Rattle.records.specs.declared.outcome.Outcome.{Outcome}
 use Rattle.records.specs.declared.state.Answer.{Answer}
@@ -20,7 +19,3 @@ OneOf room s m p = OneFor room s (outcomeIn room s m) (stateIn m) (m .commands) 
 
 abbrev pub oneAnswer : OnePlan → Answer
 oneAnswer p = record { outcome = p .outcome; state = p .next }
-
--- a command that is recorded only where the flag says so
-abbrev pub only : Bool → Command → List Command
-only some c = cond some (c ∷ []) []

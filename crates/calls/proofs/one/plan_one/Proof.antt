@@ -1,5 +1,5 @@
 -- `calls::one::plan_one` meets its contract. Assumes nothing.
-use Rattle.calls.specs.One.{only}
+use Rattle.pipeline.specs.Fixed.{only}
 use Rattle.calls.proofs.Plans.{laid, found, same, only-at}
 use borrow.Author.Needs.{needs}
 use Rattle.calls.proofs.one.plan_one.Statement.{statement}
