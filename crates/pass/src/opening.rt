@@ -9,17 +9,11 @@ ghost use Rattle.records.specs.declared.command.Command.the-variants.{PushDebug
 ghost use Rattle.slots.specs.Place.{Stands};
 ghost use Rattle.pass.specs.Marks.{Lent, timestamp, pushLabel};
 ghost use Rattle.pass.specs.Places.{noCommand};
+use bindings::group::one_if;
 use records::check::within;
 use records::command::Command;
 use records::command::OptionU32;
 use records::command::RangeU32;
-
-// 1 or 0.
-pub fn one_if(b: bool) -> u32
-    ensures { λ r. ⌜ (r ≡ digitOf b) × (r ≤ 1) ⌝ }
-{
-    if b { 1 } else { 0 }
-}
 
 pub fn stamp_count(q: OptionU32) -> u32
     ensures { λ r. ⌜ (r ≡ length (timestamp q)) × (r ≤ 1) ⌝ }
