@@ -18,7 +18,7 @@ use Rattle.calls.specs.declared.judge.Counts.{Counts}
 use Rattle.calls.specs.Judge.{grown, judged, taken}
 use Rattle.pipeline.specs.Fixed.{only}
 use Rattle.calls.specs.Parts.{withProgress}
-use Rattle.calls.specs.Planned.{listRooms, commandsOnly, Laid}
+use Rattle.calls.specs.Planned.{listRooms, commandsOnly, Put, Laid}
 use Rattle.calls.proofs.Judged.{fitting}
 
 -- the state with the new progress, or as it was
@@ -41,36 +41,39 @@ stays-put o s p g e =
 none-below : {X : Type 0} {i : ℕ} → i < 0 → X
 none-below h = absurd (omega arith)
 
--- the commands of a call that ends in a phase, where at and count are the verdict's
+-- what a call puts into a run, where at and count are the verdict's
+pub put : {X : Type 0} (o : Outcome) (room used : ℕ) (xs : List X) (none : X) (at n : ℕ) (f : ℕ → X) → (accepted o ≡ true → used + length xs ≤ room)
+    → at ≡ cond (accepted o) used 0 → n ≡ cond (accepted o) (length xs) 0 → (accepted o ≡ true → (i : ℕ) → i < length xs → f i ≡ getD xs i none) → Put room used o xs none at n f
+put o room used xs none at n f l a m e = go (accepted o) refl
+  where
+    go : (t : Bool) → accepted o ≡ t → Put room used o xs none at n f
+    go true k =
+        let here : at ≡ used = rw k at a in
+        let many : n ≡ length xs = rw k at m in
+        record {
+          count = rw k many;
+          fits = rw (here, many) (l k);
+          behind = λ h. here;
+          each = λ i h. rw k (e k i (subst (λ (x : ℕ). i < x) many h));
+        }
+    go false k =
+        let here : at ≡ 0 = rw k at a in
+        let many : n ≡ 0 = rw k at m in
+        record {
+          count = rw k many;
+          fits = rw (here, many) (zero-le);
+          behind = λ h. none-below (subst (λ (x : ℕ). 0 < x) many h);
+          each = λ i h. none-below (subst (λ (x : ℕ). i < x) many h);
+        }
+
+-- the commands of a call that ends in a phase
 module _ (room : ℕ) (s : State) (c : Conditions) (phase : Phase) (cs : List Command) where
   abbrev outcome : Outcome
   outcome = judged (listRooms room) s c phase (commandsOnly (length cs))
 
   pub laid : (at n : ℕ) (f : ℕ → Command) → at ≡ cond (accepted outcome) (s .progress .commands) 0 → n ≡ cond (accepted outcome) (length cs) 0
       → (accepted outcome ≡ true → (i : ℕ) → i < length cs → f i ≡ getD cs i PopDebugGroup) → Laid room s outcome cs at n f
-  laid at n f a m e = go (accepted outcome) refl
-    where
-      go : (t : Bool) → accepted outcome ≡ t → Laid room s outcome cs at n f
-      go true k =
-          let here : at ≡ s .progress .commands = rw k at a in
-          let many : n ≡ length cs = rw k at m in
-          let w = fitting (listRooms room) s c phase (commandsOnly (length cs)) k in
-          let l : s .progress .commands + length cs ≤ room = w .commands-fit in
-          record {
-            count = rw k many;
-            fits = rw (here, many) l;
-            behind = λ h. here;
-            each = λ i h. rw k (e k i (subst (λ (x : ℕ). i < x) many h));
-          }
-      go false k =
-          let here : at ≡ 0 = rw k at a in
-          let many : n ≡ 0 = rw k at m in
-          record {
-            count = rw k many;
-            fits = rw (here, many) (zero-le);
-            behind = λ h. none-below (subst (λ (x : ℕ). 0 < x) many h);
-            each = λ i h. none-below (subst (λ (x : ℕ). i < x) many h);
-          }
+  laid at n f = put outcome room (s .progress .commands) cs PopDebugGroup at n f (λ k. fitting (listRooms room) s c phase (commandsOnly (length cs)) k .commands-fit)
 
   -- the verdict, and where the commands go, as a plan works them out
   pub record Found (o : Outcome) (ok : Bool) (p : Progress) (at n : ℕ) : Type 0 where

@@ -48,6 +48,16 @@ abbrev pub Lists : PrivateCapabilities → State → Call → List Record → An
 Lists caps s c l a l′ =
     (bytes queries : List ℕ) → Did caps s (record { commands = l; bytes = bytes; queries = queries }) c a (record { commands = l′; bytes = bytes; queries = queries })
 
+-- of one that is handed the command list and the marker bytes
+abbrev pub Marks : PrivateCapabilities → State → Call → List Record → List ℕ → Answer → List Record → List ℕ → Type 0
+Marks caps s c l b a l′ b′ =
+    (queries : List ℕ) → Did caps s (record { commands = l; bytes = b; queries = queries }) c a (record { commands = l′; bytes = b′; queries = queries })
+
+-- of one that is handed the command list and the query list
+abbrev pub Resolves : PrivateCapabilities → State → Call → List Record → List ℕ → Answer → List Record → List ℕ → Type 0
+Resolves caps s c l q a l′ q′ =
+    (bytes : List ℕ) → Did caps s (record { commands = l; bytes = bytes; queries = q }) c a (record { commands = l′; bytes = bytes; queries = q′ })
+
 -- and of a call that is handed no run
 abbrev pub Keeps : PrivateCapabilities → State → Call → Answer → Type 0
 Keeps caps s c a = (runs : Runs) → Did caps s runs c a runs

@@ -21,6 +21,13 @@ use Rattle.calls.specs.Step.{outcomeOf, progressAfter}
 abbrev pub listRooms : ℕ → Rooms
 listRooms room = record { commands = room; bytes = 65536; queries = 1024 }
 
+-- the rooms of a call that is handed the list and the marker bytes, and of one that is handed the list and the query list
+abbrev pub byteRooms : ℕ → ℕ → Rooms
+byteRooms room bytes = record { commands = room; bytes = bytes; queries = 1024 }
+
+abbrev pub queryRooms : ℕ → ℕ → Rooms
+queryRooms room queries = record { commands = room; bytes = 65536; queries = queries }
+
 -- so many commands, no bytes, no queries
 abbrev pub commandsOnly : ℕ → Counts
 commandsOnly n = record { commands = n; bytes = 0; queries = 0 }
@@ -33,12 +40,16 @@ listed room s c n = judged (listRooms room) s c (s .progress .phase) (commandsOn
 abbrev pub moved : State → ℕ → State → State
 moved s n after = withProgress (grown (s .progress) (s .progress .phase) (commandsOnly n)) after
 
--- n commands, command i being `at-place i`, go to the place `at`: those of cs where the call is carried through, none where it is not
-pub record Laid (room : ℕ) (s : State) (o : Outcome) (cs : List Command) (at n : ℕ) (at-place : ℕ → Command) : Type 0 where
-  pub count : n ≡ length (taken o cs [])
+-- n elements, element i being `at-place i`, go to the place `at` of a run with so much room, of which so much is used: xs where the call is carried through, none where it is not
+pub record Put {X : Type 0} (room used : ℕ) (o : Outcome) (xs : List X) (none : X) (at n : ℕ) (at-place : ℕ → X) : Type 0 where
+  pub count : n ≡ length (taken o xs [])
   pub fits : at + n ≤ room
-  pub behind : 0 < n → at ≡ s .progress .commands
-  pub each : (i : ℕ) → i < n → at-place i ≡ getD (taken o cs []) i PopDebugGroup
+  pub behind : 0 < n → at ≡ used
+  pub each : (i : ℕ) → i < n → at-place i ≡ getD (taken o xs []) i none
+
+-- the same of the command list
+abbrev pub Laid : ℕ → State → Outcome → List Command → ℕ → ℕ → (ℕ → Command) → Type 0
+Laid room s o cs at n at-place = Put room (s .progress .commands) o cs PopDebugGroup at n at-place
 
 -- a plan's outcome and next state
 abbrev pub Answered : State → Outcome → State → Outcome → State → Type 0

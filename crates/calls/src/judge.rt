@@ -7,7 +7,7 @@ ghost use Rattle.records.specs.Check.{overRoom};
 ghost use Rattle.records.specs.Outcome.{accepted as acceptedOf};
 ghost use mathlib.Core.Bool.{cond};
 ghost use Rattle.calls.specs.Judge.{grown, judged, taken};
-ghost use Rattle.calls.specs.Planned.{listRooms, commandsOnly, noRooms, nothing as nothingOf};
+ghost use Rattle.calls.specs.Planned.{listRooms, byteRooms, queryRooms, commandsOnly, noRooms, nothing as nothingOf};
 use records::check::Rooms;
 use records::check::state_conditions;
 use records::limits::MAX_BYTES;
@@ -123,6 +123,28 @@ pub fn list_rooms(room: usize) -> Rooms
         commands: room,
         bytes: MAX_BYTES,
         queries: MAX_QUERIES,
+    }
+}
+
+// The rooms of a call that is handed the command list and the marker bytes.
+pub fn byte_rooms(room: usize, bytes: usize) -> Rooms
+    ensures { λ r. ⌜ r ≡ byteRooms room bytes ⌝ }
+{
+    Rooms {
+        commands: room,
+        bytes,
+        queries: MAX_QUERIES,
+    }
+}
+
+// The rooms of a call that is handed the command list and the query list.
+pub fn query_rooms(room: usize, queries: usize) -> Rooms
+    ensures { λ r. ⌜ r ≡ queryRooms room queries ⌝ }
+{
+    Rooms {
+        commands: room,
+        bytes: MAX_BYTES,
+        queries,
     }
 }
 
