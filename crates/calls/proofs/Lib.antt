@@ -4,6 +4,7 @@ pub mod Data
 pub mod Ones
 pub mod Plans
 pub mod Listed
+pub mod Keeping
 pub mod Whole
 pub mod Owns
 pub mod DrawPlans

@@ -1,5 +1,5 @@
 -- Plans of one command, as the walks have them, and as a function's table spells their types. Assumes nothing.
-use Prim.Native.Nat.{ℕ, _+_, _<_, _≤_}
+use Prim.Native.Nat.{ℕ, _+_, _<_, _≤_, min}
 use mathlib.Core.Bool.{Bool, true, false, cond, not, _||_}
 use mathlib.Core.List.{List, [], _∷_}
 use mathlib.Core.Path.{_≡_, refl}
@@ -26,6 +26,7 @@ use Rattle.records.specs.declared.state.State.{State}
 use Rattle.calls.specs.declared.one.OnePlan.{OnePlan}
 use Rattle.calls.specs.Call.{Call}
 use Rattle.calls.specs.Did.{Lists, recordOf}
+use Rattle.calls.specs.Kept.{KeptLists}
 use Rattle.calls.specs.Judge.{taken}
 use Rattle.pipeline.specs.Fixed.{only}
 use Rattle.calls.specs.One.{OneFor, OneOf, oneAnswer}
@@ -33,6 +34,7 @@ use Rattle.calls.specs.Planned.{listRooms}
 use Rattle.calls.specs.Step.{meaning}
 use Rattle.calls.specs.Transfers.{dispatchCommands}
 use Rattle.calls.proofs.Listed.{lists-done}
+use Rattle.calls.proofs.Keeping.{kept-lists}
 use Rattle.calls.proofs.Data.{text, Spells, SpellsE, kindsOf, answer}
 use Rattle.calls.proofs.one.One as B
 use Rattle.calls.proofs.one.One.Laws as B′
@@ -76,6 +78,17 @@ pub one-done : (caps : PrivateCapabilities) (s : State) (c : Call) → ((r : Roo
     → (a ≡ oneAnswer p) × (run′ ≡ filled (λ i. recordOf (p .batch .command)) run (p .batch .at) (p .batch .n)) → Lists caps s c run a run′
 one-done caps s c alone no-bytes no-queries run run′ a p h e =
     lists-done caps s c alone no-bytes no-queries run run′ a (p .outcome) (p .next) (p .batch .at) (p .batch .n) (λ i. p .batch .command) (h .0) (h .1) (e .0) (e .1)
+
+-- the same over a list by value
+pub one-keeps : (room part : ℕ) (s : State) (o : Outcome) (after : State) (cs : List Command) (p : OnePlan) → part ≡ min room 4096 → length cs ≤ 1 → OneFor part s o after cs p
+    → (p .batch .at + p .batch .n ≤ 4096) × ((i : ℕ) → i < p .batch .n → i < 1)
+one-keeps room part s o after cs p e h r = let k = one-fits part s o after cs p h r in let f : p .batch .at + p .batch .n ≤ part = k .0 in (omega arith, k .1)
+
+pub one-kept : (caps : PrivateCapabilities) (s : State) (c : Call) → ((r : Rooms) → meaning caps s c .handed r ≡ listRooms (r .commands)) → meaning caps s c .bytes ≡ [] → meaning caps s c .queries ≡ []
+    → (room part : ℕ) (l next : List Record) → length l ≡ 4096 → part ≡ min room 4096 → (a : Answer) (p : OnePlan) → OneOf part s (meaning caps s c) p
+    → a ≡ oneAnswer p → next ≡ filled (λ i. recordOf (p .batch .command)) l (p .batch .at) (p .batch .n) → KeptLists room caps s c l (record { list = next; answer = a })
+one-kept caps s c alone no-bytes no-queries room part l next long q a p h e z =
+    kept-lists caps s c alone no-bytes no-queries room part l long q (record { list = next; answer = a }) (p .outcome) (p .next) (p .batch .at) (p .batch .n) (λ i. p .batch .command) (h .0) (h .1) e z
 
 -- a dispatch records one command or none
 pub not-none : (t : Bool) (c : Command) → only (not t) c ≡ cond t [] (c ∷ [])

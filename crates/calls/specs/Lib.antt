@@ -11,3 +11,4 @@ pub mod Judge
 pub mod Planned
 pub mod One
 pub mod Drawn
+pub mod Kept

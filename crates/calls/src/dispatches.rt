@@ -19,7 +19,7 @@ use records::pipeline::PrivateCapabilities;
 use records::state::Answer;
 use records::state::State;
 
-fn plan_clear_buffer(
+pub fn plan_clear_buffer(
     room: usize,
     caps: PrivateCapabilities,
     s: State,
@@ -57,7 +57,7 @@ pub fn clear_buffer(
     commit_one(list, plan)
 }
 
-fn plan_dispatch_workgroups(
+pub fn plan_dispatch_workgroups(
     room: usize,
     caps: PrivateCapabilities,
     s: State,
@@ -88,7 +88,7 @@ pub fn dispatch_workgroups(
     commit_one(list, plan)
 }
 
-fn plan_dispatch_workgroups_indirect(
+pub fn plan_dispatch_workgroups_indirect(
     room: usize,
     caps: PrivateCapabilities,
     s: State,

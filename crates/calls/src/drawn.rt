@@ -11,6 +11,7 @@ ghost use Rattle.calls.specs.Drawn.{ownCommands, ownOver, DrawAllowed, d
 use records::command::Command;
 use records::command::OptionU32;
 use records::command::Record;
+use records::limits::MAX_COMMANDS;
 use records::outcome::Outcome;
 use records::pipeline::PrivateCapabilities;
 use records::state::Answer;
@@ -173,7 +174,7 @@ fn drawn_count(batch: Drawn) -> usize
     batch.n
 }
 
-fn draw_answer(plan: DrawPlan) -> Answer
+pub fn draw_answer(plan: DrawPlan) -> Answer
     ensures { λ r. ⌜ r ≡ drawAnswer plan ⌝ }
 {
     let state = plan.next;
@@ -190,4 +191,22 @@ pub fn commit_drawn(list: &mut [Record], plan: DrawPlan) -> Answer
     let n = drawn_count(batch);
     fill_drawn(list, at, n, batch);
     draw_answer(plan)
+}
+
+// The same into a list by value.
+pub fn keep_drawn(list: [Record; MAX_COMMANDS], plan: DrawPlan) -> [Record; MAX_COMMANDS]
+    requires { ⌜ (plan .batch .at + plan .batch .n ≤ 4096) × ((i : ℕ) → i < plan .batch .n → DrawAllowed (plan .batch) i) ⌝ }
+    ensures { λ r. ⌜ r ≡ filled (λ i. recordOf (drawnAt (plan .batch) i)) list (plan .batch .at) (plan .batch .n) ⌝ }
+{
+    let batch = plan.batch;
+    let at = batch.at;
+    let n = batch.n;
+    let mut next = list;
+    let mut i: usize = 0;
+    while i < n {
+        let c = drawn_command(batch, i);
+        next[at + i] = Record { command: c };
+        i += 1;
+    }
+    next
 }

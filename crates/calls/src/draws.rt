@@ -20,7 +20,7 @@ use records::state::IndexFormat;
 use records::state::State;
 use slots::working;
 
-fn plan_draw(
+pub fn plan_draw(
     room: usize,
     caps: PrivateCapabilities,
     s: State,
@@ -109,7 +109,7 @@ fn index_over(d: DrawState, first: u32) -> bool
     18446744073709551615 - d.index_offset < more
 }
 
-fn plan_draw_indexed(
+pub fn plan_draw_indexed(
     room: usize,
     caps: PrivateCapabilities,
     s: State,
@@ -182,7 +182,7 @@ fn indirect_absent(raw: u32, count: u32) -> bool
     (0 < count) & (raw == 0)
 }
 
-fn plan_draw_indirect(
+pub fn plan_draw_indirect(
     room: usize,
     caps: PrivateCapabilities,
     s: State,
@@ -220,7 +220,7 @@ pub fn draw_indirect(
     commit_drawn(list, plan)
 }
 
-fn plan_draw_indexed_indirect(
+pub fn plan_draw_indexed_indirect(
     room: usize,
     caps: PrivateCapabilities,
     s: State,

@@ -16,6 +16,7 @@ use crate::judge::spot_of;
 use crate::parts::with_progress;
 use records::command::Command;
 use records::command::Record;
+use records::limits::MAX_COMMANDS;
 use records::outcome::Conditions;
 use records::outcome::Outcome;
 use records::state::Answer;
@@ -71,7 +72,7 @@ fn one_count(batch: One) -> usize
     batch.n
 }
 
-fn one_answer(plan: OnePlan) -> Answer
+pub fn one_answer(plan: OnePlan) -> Answer
     ensures { λ r. ⌜ r ≡ oneAnswer plan ⌝ }
 {
     let state = plan.next;
@@ -88,6 +89,24 @@ pub fn commit_one(list: &mut [Record], plan: OnePlan) -> Answer
     let n = one_count(batch);
     fill_one(list, at, n, batch);
     one_answer(plan)
+}
+
+// The same into a list by value.
+pub fn keep_one(list: [Record; MAX_COMMANDS], plan: OnePlan) -> [Record; MAX_COMMANDS]
+    requires { ⌜ (plan .batch .at + plan .batch .n ≤ 4096) × ((i : ℕ) → i < plan .batch .n → i < 1) ⌝ }
+    ensures { λ r. ⌜ r ≡ filled (λ i. recordOf (plan .batch .command)) list (plan .batch .at) (plan .batch .n) ⌝ }
+{
+    let batch = plan.batch;
+    let at = batch.at;
+    let n = batch.n;
+    let mut next = list;
+    let mut i: usize = 0;
+    while i < n {
+        let c = one_command(batch, i);
+        next[at + i] = Record { command: c };
+        i += 1;
+    }
+    next
 }
 
 // One command, or none.

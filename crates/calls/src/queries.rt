@@ -38,7 +38,7 @@ fn query_asks(allowed: bool, range: bool, short: bool) -> Conditions
     }
 }
 
-fn plan_begin_query(
+pub fn plan_begin_query(
     set: &[u32],
     room: usize,
     count: usize,
@@ -73,7 +73,7 @@ pub fn begin_query(
     commit_one(list, plan)
 }
 
-fn plan_end_query(
+pub fn plan_end_query(
     set: &[u32],
     room: usize,
     count: usize,
@@ -107,7 +107,7 @@ pub fn end_query(
     commit_one(list, plan)
 }
 
-fn plan_write_timestamp(
+pub fn plan_write_timestamp(
     set: &[u32],
     room: usize,
     count: usize,

@@ -45,7 +45,7 @@ fn viewport_rect(r: RectF32) -> RectI32
     }
 }
 
-fn plan_set_viewport(
+pub fn plan_set_viewport(
     room: usize,
     caps: PrivateCapabilities,
     s: State,
@@ -85,7 +85,12 @@ fn scissor_rect(r: RectU32) -> RectI32
     }
 }
 
-fn plan_set_scissor_rect(room: usize, caps: PrivateCapabilities, s: State, rect: RectU32) -> OnePlan
+pub fn plan_set_scissor_rect(
+    room: usize,
+    caps: PrivateCapabilities,
+    s: State,
+    rect: RectU32,
+) -> OnePlan
     ensures { λ r. ⌜ OneOf room s (setScissorRect s rect) r ⌝ }
 {
     let progress = s.progress;
@@ -107,7 +112,7 @@ pub fn set_scissor_rect(
     commit_one(list, plan)
 }
 
-fn plan_set_blend_constants(
+pub fn plan_set_blend_constants(
     room: usize,
     caps: PrivateCapabilities,
     s: State,
@@ -149,7 +154,7 @@ fn indexed(ok: bool, d: DrawState, offset: u64, format: IndexFormat) -> DrawStat
     d
 }
 
-fn plan_set_index_buffer(
+pub fn plan_set_index_buffer(
     room: usize,
     caps: PrivateCapabilities,
     s: State,

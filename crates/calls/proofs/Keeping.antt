@@ -1,0 +1,39 @@
+-- A call over a list by value, from its plan. Assumes nothing.
+use Prim.Native.Nat.{ℕ, _+_, _≤_, min}
+use mathlib.Core.List.{List, []}
+use mathlib.Core.Path.{_≡_, sym, ap, _∙_, subst}
+use native.Mathlib.Omega.{arith}
+use lib.ListN.{length, take, drop, length-take}
+use Rattle.walks.specs.Fill.{filled}
+use Rattle.walks.proofs.Filled.{filled-part, filled-rest}
+use Rattle.records.specs.declared.check.Rooms.{Rooms}
+use Rattle.records.specs.declared.command.Command.{Command}
+use Rattle.records.specs.declared.command.Record.{Record}
+use Rattle.records.specs.declared.outcome.Outcome.{Outcome}
+use Rattle.records.specs.declared.pipeline.PrivateCapabilities.{PrivateCapabilities}
+use Rattle.records.specs.declared.state.State.{State}
+use Rattle.calls.specs.declared.kept.Kept.{Kept}
+use Rattle.calls.specs.Call.{Call}
+use Rattle.calls.specs.Did.{recordOf}
+use Rattle.calls.specs.Kept.{KeptLists}
+use Rattle.calls.specs.Planned.{listRooms, Laid, Answered, outcomeIn, stateIn}
+use Rattle.calls.specs.Step.{meaning}
+use Rattle.calls.proofs.Listed.{lists-done}
+
+-- the part that may be used
+pub part-long : (room part : ℕ) (l : List Record) → length l ≡ 4096 → part ≡ min room 4096 → length (take room l) ≡ part
+part-long room part l e h = omega (arith, length-take room l)
+
+pub kept-lists : (caps : PrivateCapabilities) (s : State) (c : Call) → ((r : Rooms) → meaning caps s c .handed r ≡ listRooms (r .commands)) → meaning caps s c .bytes ≡ [] → meaning caps s c .queries ≡ []
+    → (room part : ℕ) (l : List Record) → length l ≡ 4096 → part ≡ min room 4096 → (k : Kept) (outcome : Outcome) (next : State) (at n : ℕ) (f : ℕ → Command)
+    → Answered s (outcomeIn part s (meaning caps s c)) (stateIn (meaning caps s c)) outcome next → Laid part s (outcomeIn part s (meaning caps s c)) (meaning caps s c .commands) at n f
+    → k .answer ≡ record { outcome = outcome; state = next } → k .list ≡ filled (λ i. recordOf (f i)) l at n → KeptLists room caps s c l k
+kept-lists caps s c alone no-bytes no-queries room part l long p k outcome next at n f ans laid e z =
+    let m = meaning caps s c in
+    let q : length (take room l) ≡ part = part-long room part l long p in
+    let fits : at + n ≤ part = laid .fits in (
+      lists-done caps s c alone no-bytes no-queries (take room l) (take room (k .list)) (k .answer) outcome next at n f
+      (subst (λ (x : ℕ). Answered s (outcomeIn x s m) (stateIn m) outcome next) (sym q) ans) (subst (λ (x : ℕ). Laid x s (outcomeIn x s m) (m .commands) at n f) (sym q) laid)
+      e (ap (take room) z ∙ filled-part (λ i. recordOf (f i)) l at room n),
+      ap (drop room) z ∙ filled-rest (λ i. recordOf (f i)) l at room n (omega arith),
+    )

@@ -1,0 +1,38 @@
+-- `calls::dispatches_by_value::dispatch_workgroups_by_value` meets its contract. Assumes nothing.
+use mathlib.Core.Path.{refl}
+use borrow.Author.Needs.{needs}
+use Rattle.calls.specs.Call.{dispatch-workgroups}
+use Rattle.calls.proofs.Ones.{one-keeps, one-kept, few-dispatched}
+use Rattle.calls.proofs.dispatches_by_value.dispatch_workgroups_by_value.Statement.{statement}
+use Rattle.calls.proofs.dispatches_by_value.dispatch_workgroups_by_value.Tie as tie
+
+within-requires : tie.Need-within-requires
+within-requires c κs = search needs
+
+plan-dispatch-workgroups-requires : tie.Need-plan-dispatch-workgroups-requires
+plan-dispatch-workgroups-requires c κs = search needs
+
+one-answer-requires : tie.Need-one-answer-requires
+one-answer-requires c κs = search needs
+
+keep-one-requires : tie.Need-keep-one-requires
+keep-one-requires c κs =
+    let a = c .before .before .before .args in
+    one-keeps _ _ _ _ _ _ _ (c .before .before .within .ensures) (few-dispatched (a .x) (a .y) (a .z)) (c .before .plan-dispatch-workgroups .ensures)
+
+returns : tie.Need-returns
+returns c =
+    let st = c .before .before .before .before in
+    let a = st .args in
+    one-kept (a .caps) (a .s) (dispatch-workgroups (a .x) (a .y) (a .z)) (λ x. refl) refl refl (a .room) _ (a .list) _ (st .good .0 .1 .0 .1) (c .before .before .before .within .ensures) _ _
+    (c .before .before .plan-dispatch-workgroups .ensures) (c .before .one-answer .ensures) (c .keep-one .ensures)
+
+pub dispatch-workgroups-by-value-spec : {M : Type 1} → statement M
+dispatch-workgroups-by-value-spec =
+    tie.close
+    (tie.spec
+    within-requires
+    plan-dispatch-workgroups-requires
+    one-answer-requires
+    keep-one-requires
+    returns)

@@ -1,0 +1,36 @@
+-- `calls::draws_by_value::draw_indexed_indirect_by_value` meets its contract. Assumes nothing.
+use mathlib.Core.Path.{refl}
+use borrow.Author.Needs.{needs}
+use Rattle.calls.specs.Call.{draw-indexed-indirect}
+use Rattle.calls.proofs.DrawPlans.{draw-keeps, draw-kept}
+use Rattle.calls.proofs.draws_by_value.draw_indexed_indirect_by_value.Statement.{statement}
+use Rattle.calls.proofs.draws_by_value.draw_indexed_indirect_by_value.Tie as tie
+
+within-requires : tie.Need-within-requires
+within-requires c κs = search needs
+
+plan-draw-indexed-indirect-requires : tie.Need-plan-draw-indexed-indirect-requires
+plan-draw-indexed-indirect-requires c κs = search needs
+
+draw-answer-requires : tie.Need-draw-answer-requires
+draw-answer-requires c κs = search needs
+
+keep-drawn-requires : tie.Need-keep-drawn-requires
+keep-drawn-requires c κs = draw-keeps _ _ _ _ _ (c .before .before .within .ensures) (c .before .plan-draw-indexed-indirect .ensures)
+
+returns : tie.Need-returns
+returns c =
+    let st = c .before .before .before .before in
+    let a = st .args in
+    draw-kept (a .caps) (a .s) (draw-indexed-indirect (a .buffer) (a .offset) (a .draw-count)) (λ x. refl) refl refl (a .room) _ (a .list) _ (st .good .0 .1 .0 .1) (c .before .before .before .within .ensures) _ _
+    (c .before .before .plan-draw-indexed-indirect .ensures) (c .before .draw-answer .ensures) (c .keep-drawn .ensures)
+
+pub draw-indexed-indirect-by-value-spec : {M : Type 1} → statement M
+draw-indexed-indirect-by-value-spec =
+    tie.close
+    (tie.spec
+    within-requires
+    plan-draw-indexed-indirect-requires
+    draw-answer-requires
+    keep-drawn-requires
+    returns)
