@@ -1,8 +1,13 @@
 pub mod Args
 pub mod Calls
 pub mod Committing
+pub mod CommittingFrom
 pub mod Filled
 pub mod Filling
+pub mod FillingFrom
 pub mod Listing
+pub mod Passing
 pub mod Reading
+pub mod ReadingFrom
+pub mod Resolving
 pub mod Slices
