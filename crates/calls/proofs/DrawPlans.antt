@@ -1,8 +1,7 @@
 -- Plans of draws, as the walks have them, and as a function's table spells their types. Assumes nothing.
-use Prim.Native.Nat.{ℕ, _+_, _<_, _≤_, min}
+use Prim.Native.Nat.{ℕ, _+_, _<_, _≤_}
 use mathlib.Core.List.{List, []}
 use mathlib.Core.Path.{_≡_}
-use native.Mathlib.Omega.{arith}
 use lib.ListN.{length}
 use mir.Table.{Table}
 use Rattle.walks.specs.Fill.{filled}
@@ -20,13 +19,11 @@ use Rattle.records.proofs.state.Answer as A
 use Rattle.calls.specs.declared.drawn.DrawPlan.{DrawPlan}
 use Rattle.calls.specs.Call.{Call}
 use Rattle.calls.specs.Did.{Lists, recordOf}
-use Rattle.calls.specs.Kept.{KeptLists}
 use Rattle.calls.specs.Drawn.{DrawAllowed, DrawOf, drawnAt, drawAnswer}
 use Rattle.calls.specs.Meaning.{Meaning}
 use Rattle.calls.specs.Planned.{listRooms}
 use Rattle.calls.specs.Step.{meaning}
 use Rattle.calls.proofs.Listed.{lists-done}
-use Rattle.calls.proofs.Keeping.{kept-lists}
 use Rattle.calls.proofs.Data.{text, Spells, SpellsE, kindsOf, answer}
 use Rattle.calls.proofs.drawn.Drawn as B
 use Rattle.calls.proofs.drawn.Drawn.Laws as B′
@@ -65,13 +62,3 @@ pub draw-done : (caps : PrivateCapabilities) (s : State) (c : Call) → ((r : Ro
     → (a ≡ drawAnswer p) × (run′ ≡ filled (λ i. recordOf (drawnAt (p .batch) i)) run (p .batch .at) (p .batch .n)) → Lists caps s c run a run′
 draw-done caps s c alone no-bytes no-queries run run′ a p h e =
     lists-done caps s c alone no-bytes no-queries run run′ a (p .outcome) (p .next) (p .batch .at) (p .batch .n) (drawnAt (p .batch)) (h .0) (h .1) (e .0) (e .1)
-
--- the same over a list by value
-pub draw-keeps : (room part : ℕ) (s : State) (m : Meaning) (p : DrawPlan) → part ≡ min room 4096 → DrawOf part s m p → (p .batch .at + p .batch .n ≤ 4096) × ((i : ℕ) → i < p .batch .n → DrawAllowed (p .batch) i)
-draw-keeps room part s m p e h = let f : p .batch .at + p .batch .n ≤ part = h .1 .fits in (omega arith, h .2)
-
-pub draw-kept : (caps : PrivateCapabilities) (s : State) (c : Call) → ((r : Rooms) → meaning caps s c .handed r ≡ listRooms (r .commands)) → meaning caps s c .bytes ≡ [] → meaning caps s c .queries ≡ []
-    → (room part : ℕ) (l next : List Record) → length l ≡ 4096 → part ≡ min room 4096 → (a : Answer) (p : DrawPlan) → DrawOf part s (meaning caps s c) p
-    → a ≡ drawAnswer p → next ≡ filled (λ i. recordOf (drawnAt (p .batch) i)) l (p .batch .at) (p .batch .n) → KeptLists room caps s c l (record { list = next; answer = a })
-draw-kept caps s c alone no-bytes no-queries room part l next long q a p h e z =
-    kept-lists caps s c alone no-bytes no-queries room part l long q (record { list = next; answer = a }) (p .outcome) (p .next) (p .batch .at) (p .batch .n) (drawnAt (p .batch)) (h .0) (h .1) e z

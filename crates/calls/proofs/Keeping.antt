@@ -1,5 +1,5 @@
 -- A call over a list by value, from its plan. Assumes nothing.
-use Prim.Native.Nat.{ℕ, _+_, _≤_, min}
+use Prim.Native.Nat.{ℕ, _+_, _<_, _≤_, min}
 use mathlib.Core.List.{List, []}
 use mathlib.Core.Path.{_≡_, sym, ap, _∙_, subst}
 use native.Mathlib.Omega.{arith}
@@ -13,10 +13,12 @@ use Rattle.records.specs.declared.outcome.Outcome.{Outcome}
 use Rattle.records.specs.declared.pipeline.PrivateCapabilities.{PrivateCapabilities}
 use Rattle.records.specs.declared.state.State.{State}
 use Rattle.calls.specs.declared.kept.Kept.{Kept}
+use Rattle.records.specs.declared.state.Answer.{Answer}
 use Rattle.calls.specs.Call.{Call}
 use Rattle.calls.specs.Did.{recordOf}
 use Rattle.calls.specs.Kept.{KeptLists}
-use Rattle.calls.specs.Planned.{listRooms, Laid, Answered, outcomeIn, stateIn}
+use Rattle.calls.specs.Planned.{listRooms, Laid, Answered, Right, outcomeIn, stateIn}
+use Rattle.calls.specs.Meaning.{Meaning}
 use Rattle.calls.specs.Step.{meaning}
 use Rattle.calls.proofs.Listed.{lists-done}
 
@@ -37,3 +39,15 @@ kept-lists caps s c alone no-bytes no-queries room part l long p k outcome next 
       e (ap (take room) z ∙ filled-part (λ i. recordOf (f i)) l at room n),
       ap (drop room) z ∙ filled-rest (λ i. recordOf (f i)) l at room n (omega arith),
     )
+
+-- the same of a plan that is right for the part
+pub right-keeps : (room part : ℕ) (s : State) (m : Meaning) (outcome : Outcome) (next : State) (at n : ℕ) (f : ℕ → Command) (allowed : ℕ → Type 0) → part ≡ min room 4096
+    → Right part s m outcome next at n f allowed → (at + n ≤ 4096) × ((i : ℕ) → i < n → allowed i)
+right-keeps room part s m outcome next at n f allowed e h = let k : at + n ≤ part = h .1 .fits in (omega arith, h .2)
+
+pub right-kept : (caps : PrivateCapabilities) (s : State) (c : Call) → ((r : Rooms) → meaning caps s c .handed r ≡ listRooms (r .commands)) → meaning caps s c .bytes ≡ [] → meaning caps s c .queries ≡ []
+    → (room part : ℕ) (l l′ : List Record) → length l ≡ 4096 → part ≡ min room 4096 → (a : Answer) (outcome : Outcome) (next : State) (at n : ℕ) (f : ℕ → Command) (allowed : ℕ → Type 0)
+    → Right part s (meaning caps s c) outcome next at n f allowed → a ≡ record { outcome = outcome; state = next } → l′ ≡ filled (λ i. recordOf (f i)) l at n
+    → KeptLists room caps s c l (record { list = l′; answer = a })
+right-kept caps s c alone no-bytes no-queries room part l l′ long q a outcome next at n f allowed h e z =
+    kept-lists caps s c alone no-bytes no-queries room part l long q (record { list = l′; answer = a }) outcome next at n f (h .0) (h .1) e z

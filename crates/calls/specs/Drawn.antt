@@ -19,7 +19,7 @@ use Rattle.calls.specs.declared.drawn.Drawn.{Drawn}
 use Rattle.calls.specs.declared.drawn.DrawPlan.{DrawPlan}
 use Rattle.calls.specs.Draws.{indirectOver}
 use Rattle.calls.specs.Meaning.{Meaning}
-use Rattle.calls.specs.Planned.{Laid, Answered, outcomeIn, stateIn}
+use Rattle.calls.specs.Planned.{Right}
 
 -- a draw's own commands: one, or as many as its count, 16 or 20 bytes apart
 abbrev pub ownCommands : Own → List Command
@@ -66,10 +66,7 @@ abbrev pub drawnAt : Drawn → ℕ → Command
 drawnAt b i = getD (drawnCommands b) i PopDebugGroup
 
 abbrev pub DrawOf : ℕ → State → Meaning → DrawPlan → Type 0
-DrawOf room s m p =
-    Answered s (outcomeIn room s m) (stateIn m) (p .outcome) (p .next)
-    × Laid room s (outcomeIn room s m) (m .commands) (p .batch .at) (p .batch .n) (drawnAt (p .batch))
-    × ((i : ℕ) → i < p .batch .n → DrawAllowed (p .batch) i)
+DrawOf room s m p = Right room s m (p .outcome) (p .next) (p .batch .at) (p .batch .n) (drawnAt (p .batch)) (DrawAllowed (p .batch))
 
 abbrev pub drawAnswer : DrawPlan → Answer
 drawAnswer p = record { outcome = p .outcome; state = p .next }

@@ -1,6 +1,6 @@
 -- Whether a call is carried through: its own conditions, those of the state that it is handed, and room for what it appends. Definitions only.
 use Prim.Native.Nat.{ℕ, _+_}
-use mathlib.Core.Bool.{Bool, cond, _||_}
+use mathlib.Core.Bool.{Bool, cond, not, _||_}
 use Rattle.records.specs.Outcome.{accepted, either, smallest}
 use Rattle.records.specs.Check.{overRoom, stateConditions}
 use Rattle.records.specs.declared.check.Rooms.{Rooms}
@@ -27,6 +27,11 @@ asked c over =
       sum = c .sum;
       room = c .room || over;
     }
+
+-- the conditions of a call's arguments, with 1 where its phase is not allowed
+abbrev pub asking : Bool → Conditions → Conditions
+asking allowed c =
+    record { phase = not allowed; many = c .many; range = c .range; absent = c .absent; kind = c .kind; sum = c .sum; room = c .room }
 
 abbrev pub judged : Rooms → State → Conditions → Phase → Counts → Outcome
 judged rooms s c phase more = smallest (either (stateConditions s rooms) (asked c (overRoom (grown (s .progress) phase more) rooms)))

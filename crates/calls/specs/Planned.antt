@@ -62,6 +62,13 @@ outcomeIn room s m = outcomeOf (listRooms room) s m
 abbrev pub stateIn : Meaning → State
 stateIn m = withProgress (progressAfter m) (m .after)
 
+-- a plan that is right for a meaning: its outcome and next state; its commands go to their place; each that is written may be asked for
+abbrev pub Right : ℕ → State → Meaning → Outcome → State → ℕ → ℕ → (ℕ → Command) → (ℕ → Type 0) → Type 0
+Right room s m outcome next at n at-place allowed =
+    Answered s (outcomeIn room s m) (stateIn m) outcome next
+    × Laid room s (outcomeIn room s m) (m .commands) at n at-place
+    × ((i : ℕ) → i < n → allowed i)
+
 -- a call that is handed no run, and what it appends
 abbrev pub noRooms : Rooms
 noRooms = record { commands = 4096; bytes = 65536; queries = 1024 }

@@ -2,7 +2,7 @@
 use mathlib.Core.Path.{refl}
 use borrow.Author.Needs.{needs}
 use Rattle.calls.specs.Call.{draw-indexed-indirect}
-use Rattle.calls.proofs.DrawPlans.{draw-keeps, draw-kept}
+use Rattle.calls.proofs.Keeping.{right-keeps, right-kept}
 use Rattle.calls.proofs.draws_by_value.draw_indexed_indirect_by_value.Statement.{statement}
 use Rattle.calls.proofs.draws_by_value.draw_indexed_indirect_by_value.Tie as tie
 
@@ -16,13 +16,13 @@ draw-answer-requires : tie.Need-draw-answer-requires
 draw-answer-requires c κs = search needs
 
 keep-drawn-requires : tie.Need-keep-drawn-requires
-keep-drawn-requires c κs = draw-keeps _ _ _ _ _ (c .before .before .within .ensures) (c .before .plan-draw-indexed-indirect .ensures)
+keep-drawn-requires c κs = right-keeps _ _ _ _ _ _ _ _ _ _ (c .before .before .within .ensures) (c .before .plan-draw-indexed-indirect .ensures)
 
 returns : tie.Need-returns
 returns c =
     let st = c .before .before .before .before in
     let a = st .args in
-    draw-kept (a .caps) (a .s) (draw-indexed-indirect (a .buffer) (a .offset) (a .draw-count)) (λ x. refl) refl refl (a .room) _ (a .list) _ (st .good .0 .1 .0 .1) (c .before .before .before .within .ensures) _ _
+    right-kept (a .caps) (a .s) (draw-indexed-indirect (a .buffer) (a .offset) (a .draw-count)) (λ x. refl) refl refl (a .room) _ (a .list) _ (st .good .0 .1 .0 .1) (c .before .before .before .within .ensures) _ _ _ _ _ _ _
     (c .before .before .plan-draw-indexed-indirect .ensures) (c .before .draw-answer .ensures) (c .keep-drawn .ensures)
 
 pub draw-indexed-indirect-by-value-spec : {M : Type 1} → statement M

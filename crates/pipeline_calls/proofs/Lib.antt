@@ -1,0 +1,4 @@
+pub mod Families
+pub mod Rights
+pub mod Taken
+pub mod Sames

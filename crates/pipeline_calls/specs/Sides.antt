@@ -1,0 +1,25 @@
+-- A plan of stencil functions. Definitions only.
+use Prim.Native.Nat.{ℕ, _<_, _≤_}
+use lib.ListN.{length, getD}
+use Rattle.records.specs.declared.command.Command.{Command}
+use Rattle.records.specs.declared.command.Command.the-variants.{PopDebugGroup}
+use Rattle.records.specs.declared.state.Answer.{Answer}
+use Rattle.records.specs.declared.state.State.{State}
+use Rattle.pipeline.specs.Fixed.{stencilFuncs}
+use Rattle.calls.specs.Meaning.{Meaning}
+use Rattle.pipeline_calls.specs.declared.sides.Sides.{Sides}
+use Rattle.pipeline_calls.specs.declared.sides.SidesPlan.{SidesPlan}
+use Rattle.calls.specs.Planned.{Right}
+
+-- there is a command number i, and there are no more than two
+abbrev pub SidesAllowed : Sides → ℕ → Type 0
+SidesAllowed b i = (i < length (stencilFuncs (b .stencil))) × (length (stencilFuncs (b .stencil)) ≤ 2)
+
+abbrev pub sidesAt : Sides → ℕ → Command
+sidesAt b i = getD (stencilFuncs (b .stencil)) i PopDebugGroup
+
+abbrev pub SidesOf : ℕ → State → Meaning → SidesPlan → Type 0
+SidesOf room s m p = Right room s m (p .outcome) (p .next) (p .batch .at) (p .batch .n) (sidesAt (p .batch)) (SidesAllowed (p .batch))
+
+abbrev pub sidesAnswer : SidesPlan → Answer
+sidesAnswer p = record { outcome = p .outcome; state = p .next }
