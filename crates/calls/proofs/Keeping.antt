@@ -15,12 +15,13 @@ use Rattle.records.specs.declared.state.State.{State}
 use Rattle.calls.specs.declared.kept.Kept.{Kept}
 use Rattle.records.specs.declared.state.Answer.{Answer}
 use Rattle.calls.specs.Call.{Call}
-use Rattle.calls.specs.Did.{recordOf}
-use Rattle.calls.specs.Kept.{KeptLists}
-use Rattle.calls.specs.Planned.{listRooms, Laid, Answered, Right, outcomeIn, stateIn}
+use Rattle.calls.specs.Judge.{taken}
+use Rattle.calls.specs.Did.{recordOf, written}
+use Rattle.calls.specs.Kept.{KeptLists, KeptMarks, KeptResolves}
+use Rattle.calls.specs.Planned.{listRooms, byteRooms, queryRooms, Laid, Answered, Right, outcomeIn, stateIn}
 use Rattle.calls.specs.Meaning.{Meaning}
-use Rattle.calls.specs.Step.{meaning}
-use Rattle.calls.proofs.Listed.{lists-done}
+use Rattle.calls.specs.Step.{meaning, outcomeOf}
+use Rattle.calls.proofs.Listed.{lists-done, marks-done, resolves-done}
 
 -- the part that may be used
 pub part-long : (room part : ℕ) (l : List Record) → length l ≡ 4096 → part ≡ min room 4096 → length (take room l) ≡ part
@@ -35,8 +36,8 @@ kept-lists caps s c alone no-bytes no-queries room part l long p k outcome next 
     let q : length (take room l) ≡ part = part-long room part l long p in
     let fits : at + n ≤ part = laid .fits in (
       lists-done caps s c alone no-bytes no-queries (take room l) (take room (k .list)) (k .answer) outcome next at n f
-      (subst (λ (x : ℕ). Answered s (outcomeIn x s m) (stateIn m) outcome next) (sym q) ans) (subst (λ (x : ℕ). Laid x s (outcomeIn x s m) (m .commands) at n f) (sym q) laid)
-      e (ap (take room) z ∙ filled-part (λ i. recordOf (f i)) l at room n),
+          (subst (λ (x : ℕ). Answered s (outcomeIn x s m) (stateIn m) outcome next) (sym q) ans) (subst (λ (x : ℕ). Laid x s (outcomeIn x s m) (m .commands) at n f) (sym q) laid)
+          e (ap (take room) z ∙ filled-part (λ i. recordOf (f i)) l at room n),
       ap (drop room) z ∙ filled-rest (λ i. recordOf (f i)) l at room n (omega arith),
     )
 
@@ -51,3 +52,39 @@ pub right-kept : (caps : PrivateCapabilities) (s : State) (c : Call) → ((r : R
     → KeptLists room caps s c l (record { list = l′; answer = a })
 right-kept caps s c alone no-bytes no-queries room part l l′ long q a outcome next at n f allowed h e z =
     kept-lists caps s c alone no-bytes no-queries room part l long q (record { list = l′; answer = a }) outcome next at n f (h .0) (h .1) e z
+
+-- the same of a call that is handed the marker bytes, or the query list, beside the list
+module _ (caps : PrivateCapabilities) (s : State) (c : Call) (room part : ℕ) (l : List Record) (long : length l ≡ 4096) (p : part ≡ min room 4096) (k : Kept) (outcome : Outcome) (next : State) (at n : ℕ) (f : ℕ → Command)
+    (e : k .answer ≡ record { outcome = outcome; state = next }) (z : k .list ≡ filled (λ i. recordOf (f i)) l at n) where
+  abbrev m : Meaning
+  m = meaning caps s c
+
+  q : length (take room l) ≡ part
+  q = part-long room part l long p
+
+  rest : at + n ≤ part → drop room (k .list) ≡ drop room l
+  rest fits = ap (drop room) z ∙ filled-rest (λ i. recordOf (f i)) l at room n (omega arith)
+
+  pub kept-marks : ((r : Rooms) → m .handed r ≡ byteRooms (r .commands) (r .bytes)) → m .queries ≡ [] → (bytes bytes′ : List ℕ)
+      → Answered s (outcomeOf (byteRooms part (length bytes)) s m) (stateIn m) outcome next → Laid part s (outcomeOf (byteRooms part (length bytes)) s m) (m .commands) at n f
+      → bytes′ ≡ written bytes (s .progress .bytes) (taken (outcomeOf (byteRooms part (length bytes)) s m) (m .bytes) []) → KeptMarks room caps s c l bytes k bytes′
+  kept-marks handed no-queries bytes bytes′ ans laid w = (
+    marks-done caps s c handed no-queries (take room l) (take room (k .list)) bytes bytes′ (k .answer) outcome next at n f
+    (subst (λ (x : ℕ). Answered s (outcomeOf (byteRooms x (length bytes)) s m) (stateIn m) outcome next) (sym q) ans)
+    (subst (λ (x : ℕ). Laid x s (outcomeOf (byteRooms x (length bytes)) s m) (m .commands) at n f) (sym q) laid)
+    e (ap (take room) z ∙ filled-part (λ i. recordOf (f i)) l at room n)
+    (subst (λ (x : ℕ). bytes′ ≡ written bytes (s .progress .bytes) (taken (outcomeOf (byteRooms x (length bytes)) s m) (m .bytes) [])) (sym q) w),
+    rest (laid .fits),
+  )
+
+  pub kept-resolves : ((r : Rooms) → m .handed r ≡ queryRooms (r .commands) (r .queries)) → m .bytes ≡ [] → (queries queries′ : List ℕ)
+      → Answered s (outcomeOf (queryRooms part (length queries)) s m) (stateIn m) outcome next → Laid part s (outcomeOf (queryRooms part (length queries)) s m) (m .commands) at n f
+      → queries′ ≡ written queries (s .progress .queries) (taken (outcomeOf (queryRooms part (length queries)) s m) (m .queries) []) → KeptResolves room caps s c l queries k queries′
+  kept-resolves handed no-bytes queries queries′ ans laid w = (
+    resolves-done caps s c handed no-bytes (take room l) (take room (k .list)) queries queries′ (k .answer) outcome next at n f
+    (subst (λ (x : ℕ). Answered s (outcomeOf (queryRooms x (length queries)) s m) (stateIn m) outcome next) (sym q) ans)
+    (subst (λ (x : ℕ). Laid x s (outcomeOf (queryRooms x (length queries)) s m) (m .commands) at n f) (sym q) laid)
+    e (ap (take room) z ∙ filled-part (λ i. recordOf (f i)) l at room n)
+    (subst (λ (x : ℕ). queries′ ≡ written queries (s .progress .queries) (taken (outcomeOf (queryRooms x (length queries)) s m) (m .queries) [])) (sym q) w),
+    rest (laid .fits),
+  )

@@ -71,7 +71,7 @@ fn compute_next(
     shared_moved(ok, s, progress, draw, bind, immediates)
 }
 
-fn plan_set_compute_pipeline(
+pub fn plan_set_compute_pipeline(
     room: usize,
     caps: PrivateCapabilities,
     s: State,

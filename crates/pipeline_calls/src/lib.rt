@@ -1,4 +1,5 @@
 // The pipeline calls: render and compute pipelines, and the stencil reference.
+pub mod by_value;
 pub mod compute;
 mod moved;
 mod piped;

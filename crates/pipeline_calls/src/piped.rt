@@ -10,6 +10,7 @@ use pipeline::render::RenderPlan;
 use pipeline::render::render_command_at;
 use records::command::Command;
 use records::command::Record;
+use records::limits::MAX_COMMANDS;
 use records::outcome::Outcome;
 use records::pipeline::PrivateCapabilities;
 use records::pipeline::RenderPipeline;
@@ -81,7 +82,7 @@ fn piped_count(batch: Piped) -> usize
     batch.n
 }
 
-fn piped_answer(plan: PipedPlan) -> Answer
+pub fn piped_answer(plan: PipedPlan) -> Answer
     ensures { λ r. ⌜ r ≡ pipedAnswer plan ⌝ }
 {
     let state = plan.next;
@@ -98,4 +99,22 @@ pub fn commit_piped(list: &mut [Record], plan: PipedPlan) -> Answer
     let n = piped_count(batch);
     fill_piped(list, at, n, batch);
     piped_answer(plan)
+}
+
+// The same into a list by value.
+pub fn keep_piped(list: [Record; MAX_COMMANDS], plan: PipedPlan) -> [Record; MAX_COMMANDS]
+    requires { ⌜ (plan .batch .at + plan .batch .n ≤ 4096) × ((i : ℕ) → i < plan .batch .n → PipedAllowed (plan .batch) i) ⌝ }
+    ensures { λ r. ⌜ r ≡ filled (λ i. recordOf (commandAt (plan .batch) i)) list (plan .batch .at) (plan .batch .n) ⌝ }
+{
+    let batch = plan.batch;
+    let at = batch.at;
+    let n = batch.n;
+    let mut next = list;
+    let mut i: usize = 0;
+    while i < n {
+        let c = piped_command(batch, i);
+        next[at + i] = Record { command: c };
+        i += 1;
+    }
+    next
 }

@@ -66,7 +66,7 @@ fn with_stencil(f: FixedState, stencil: StencilState) -> FixedState
     }
 }
 
-fn plan_set_stencil_reference(
+pub fn plan_set_stencil_reference(
     room: usize,
     caps: PrivateCapabilities,
     s: State,

@@ -104,7 +104,7 @@ fn render_next(
     render_moved(ok, s, shared, vertex, fixed)
 }
 
-fn plan_set_render_pipeline(
+pub fn plan_set_render_pipeline(
     room: usize,
     caps: PrivateCapabilities,
     s: State,

@@ -1,0 +1,179 @@
+-- The plan of `set_immediates`, as it is worked out, is right. Assumes nothing.
+use Prim.Native.Nat.{ℕ, _*_, _<_, _≤_}
+use mathlib.Core.Bool.{Bool, true, false, cond, not, _||_}
+use mathlib.Core.List.{List}
+use mathlib.Core.Path.{_≡_, refl, sym, ap, _∙_, subst}
+use native.Mathlib.Omega.{arith}
+use lib.ListN.{length, getD, take}
+use Rattle.records.specs.Outcome.{accepted}
+use Rattle.records.specs.Check.{some?, badAttribute, badUnits, badDescriptor, badResolve, badMasks, attributesOf, resolvesOf, outOfRange, stateConditions}
+use Rattle.records.specs.declared.check.Rooms.{Rooms}
+use Rattle.records.specs.declared.command.Command.{Command}
+use Rattle.records.specs.declared.command.Command.the-variants.{PopDebugGroup}
+use Rattle.records.specs.declared.outcome.Conditions.{Conditions}
+use Rattle.records.specs.declared.outcome.Outcome.{Outcome}
+use Rattle.records.specs.declared.state.ImmediateState.{ImmediateState}
+use Rattle.records.specs.declared.state.Progress.{Progress}
+use Rattle.records.specs.declared.state.State.{State}
+use Rattle.bindings.specs.Immediates.{descriptorsOf, immediatesState, immediateCommands, immediateBytes, immediatesOutOfRange}
+use Rattle.bindings.specs.Placed.{placesOf}
+use Rattle.pass.specs.Marks.{Lent, counted, overRun}
+use Rattle.calls.specs.declared.judge.Counts.{Counts}
+use Rattle.calls.specs.Judge.{grown, judged, taken}
+use Rattle.calls.specs.Meaning.{Meaning, inPass}
+use Rattle.calls.specs.Parts.{withProgress, withImmediates}
+use Rattle.calls.specs.Planned.{byteRooms}
+use Rattle.calls.specs.Step.{setImmediates, outcomeOf}
+use Rattle.calls.proofs.Judged.{neither, none-holds, within, fitting}
+use Rattle.calls.proofs.Plans.{put, moved-or-not}
+use Rattle.binding_calls.specs.declared.immediates.Worked.{Worked}
+use Rattle.binding_calls.specs.ImmediatePlans.{Right, WorkedOf, ImmediateOf}
+use Rattle.binding_calls.proofs.ImmediateJudged.{before, clear, Found, found}
+
+-- what is taken only where a call is carried through, and equal there
+taken-same : {X : Type 0} (t : Bool) (x y z : X) → (t ≡ true → x ≡ y) → cond t x z ≡ cond t y z
+taken-same true x y z e = e refl
+taken-same false x y z e = refl
+
+none-below : {X : Type 0} {i : ℕ} → i < 0 → X
+none-below h = absurd (omega arith)
+
+-- an element of what is taken
+one-taken : (t : Bool) (n k i : ℕ) → n ≡ cond t k 0 → i < n → (t ≡ true) × (i < k)
+one-taken true n k i e h = (refl, subst (λ (x : ℕ). i < x) e h)
+one-taken false n k i e h = none-below (subst (λ (x : ℕ). i < x) e h)
+
+-- the state with the words that a call leaves
+immediates-next : (t : Bool) (new : ImmediateState) (s : State) (p : Progress) → withImmediates (cond t new (s .immediates)) (withProgress p s) ≡ withProgress p (cond t (withImmediates new s) s)
+immediates-next true new s p = refl
+immediates-next false new s p = refl
+
+module _ (room bytes : ℕ) (s : State) (offset : ℕ) (ws : Lent) (w : Worked) (work : WorkedOf (ws .run) (ws .count) (s .immediates) offset (s .progress .bytes) w) where
+  abbrev i : ImmediateState
+  i = s .immediates
+
+  abbrev m : Meaning
+  m = setImmediates s offset ws
+
+  abbrev rooms : Rooms
+  rooms = byteRooms room bytes
+
+  abbrev asks : Conditions
+  asks =
+      record {
+        phase = not (inPass (s .progress .phase));
+        many = false;
+        range = immediatesOutOfRange offset (ws .count);
+        absent = false;
+        kind = false;
+        sum = false;
+        room = overRun ws;
+      }
+
+  -- the counts as they are worked out, and as they are
+  abbrev more : Counts
+  more = record { commands = w .n; bytes = w .size; queries = 0 }
+
+  abbrev true-more : Counts
+  true-more = record { commands = length (m .commands); bytes = length (m .bytes); queries = 0 }
+
+  abbrev outcome : Outcome
+  outcome = judged rooms s asks (s .progress .phase) true-more
+
+  -- where no condition but the room for what is appended turns the call away, what is worked out is right
+  good : accepted (before rooms s asks (s .progress .phase)) ≡ true → some? badDescriptor (descriptorsOf i) ≡ false
+  good k =
+      let held = neither (outOfRange s) (asks .range) (none-holds _ k .range) .0 in
+      let units : Bool = badUnits (s .bind .sampled) 0 (s .bind .«texture_slots») in
+      let rest : Bool = some? badResolve (resolvesOf s) || badMasks s in
+      let behind = neither (some? badAttribute (attributesOf s)) (units || (some? badDescriptor (descriptorsOf i) || rest)) held .1 in
+      neither (some? badDescriptor (descriptorsOf i)) rest (neither units (some? badDescriptor (descriptorsOf i) || rest) behind .1) .0
+
+  all-right : accepted (before rooms s asks (s .progress .phase)) ≡ true → Right (ws .run) (ws .count) i offset (s .progress .bytes) w
+  all-right k =
+      let held = none-holds _ k in
+      let u = within (s .progress) rooms (neither (stateConditions s rooms .room) (asks .room) (held .room) .0) in
+      work .right (neither (stateConditions s rooms .range) (asks .range) (held .range) .1) (good k) (u .bytes-limit)
+
+  known : accepted (before rooms s asks (s .progress .phase)) ≡ true → more ≡ true-more
+  known k = λ j. record { commands = work .many j; bytes = all-right k .size j; queries = 0 }
+
+  carried : accepted outcome ≡ true → Right (ws .run) (ws .count) i offset (s .progress .bytes) w
+  carried h = all-right (clear rooms s asks (s .progress .phase) true-more h)
+
+  -- the verdict as the counts that are worked out have it
+  pub verdict : {o : Outcome} {ok : Bool} {progress : Progress}
+      → (o ≡ judged rooms s asks (s .progress .phase) more) × (ok ≡ accepted (judged rooms s asks (s .progress .phase) more))
+      × (progress ≡ taken (judged rooms s asks (s .progress .phase) more) (grown (s .progress) (s .progress .phase) more) (s .progress)) → Found rooms s asks (s .progress .phase) true-more o ok progress
+  verdict v = found rooms s asks (s .progress .phase) more true-more known v
+
+  module _ {o : Outcome} {ok : Bool} {progress : Progress} (k : Found rooms s asks (s .progress .phase) true-more o ok progress) where
+    -- the next state
+    abbrev new : ImmediateState
+    new = immediatesState i offset (counted ws)
+
+    next-is : (next moved : State) (now : ImmediateState) → next ≡ withImmediates now moved → moved ≡ withProgress progress s → now ≡ cond ok (w .state) i
+        → next ≡ taken outcome (withProgress (grown (s .progress) (s .progress .phase) true-more) (withImmediates new s)) s
+    next-is next moved now a b c =
+        a
+        ∙ ap (withImmediates now) b
+        ∙ ap (λ (y : ImmediateState). withImmediates y (withProgress progress s)) (c ∙ ap (λ (t : Bool). cond t (w .state) i) (k .sure) ∙ taken-same (accepted outcome) (w .state) new i (λ h. carried h .state))
+        ∙ immediates-next (accepted outcome) new s progress
+        ∙ ap (λ (q : Progress). withProgress q (taken outcome (withImmediates new s) s)) (k .left)
+        ∙ moved-or-not outcome s (withImmediates new s) (grown (s .progress) (s .progress .phase) true-more)
+
+    abbrev sure-is : {X : Type 0} (x z : X) → cond ok x z ≡ cond (accepted outcome) x z
+    sure-is x z = ap (λ (t : Bool). cond t x z) (k .sure)
+
+    -- where the call is carried through, the bytes go behind the used ones, and the batch has the commands and the bytes of the call
+    module _ (place : ℕ) (here : place ≡ cond ok (s .progress .bytes) 0) (h : accepted outcome ≡ true) where
+      put-here : place ≡ s .progress .bytes
+      put-here = here ∙ ap (λ (t : Bool). cond t (s .progress .bytes) 0) (k .sure ∙ h)
+
+      same-commands : immediateCommands (descriptorsOf (w .state)) place ≡ immediateCommands (descriptorsOf i) (s .progress .bytes)
+      same-commands = ap (λ (x : ImmediateState). immediateCommands (descriptorsOf x) place) (carried h .state) ∙ ap (immediateCommands (descriptorsOf i)) put-here
+
+      same-places : take (length (descriptorsOf (w .state))) (w .placed .at) ≡ placesOf (descriptorsOf (w .state)) place
+      same-places =
+          ap (λ (x : ImmediateState). take (length (descriptorsOf x)) (w .placed .at)) (carried h .state)
+          ∙ carried h .places
+          ∙ sym (ap (λ (x : ImmediateState). placesOf (descriptorsOf x) place) (carried h .state) ∙ ap (placesOf (descriptorsOf i)) put-here)
+
+    same-bytes : accepted outcome ≡ true → immediateBytes (w .state .words) (descriptorsOf (w .state)) ≡ m .bytes
+    same-bytes h = ap (λ (x : ImmediateState). immediateBytes (x .words) (descriptorsOf x)) (carried h .state)
+
+    good-sent : accepted outcome ≡ true → some? badDescriptor (descriptorsOf (w .state)) ≡ false
+    good-sent h = ap (λ (x : ImmediateState). some? badDescriptor (descriptorsOf x)) (carried h .state) ∙ good (clear rooms s asks (s .progress .phase) true-more h)
+
+    pub planned : (next moved : State) (now : ImmediateState) (at n place size : ℕ) → next ≡ withImmediates now moved → moved ≡ withProgress progress s → now ≡ cond ok (w .state) i
+        → (at ≡ cond ok (s .progress .commands) 0) × (n ≡ cond ok (w .n) 0) → (place ≡ cond ok (s .progress .bytes) 0) × (size ≡ cond ok (w .size) 0)
+        → ImmediateOf room bytes s m (record { next = next; batch = record { at = at; n = n; put = place; size = size; state = w .state; placed = w .placed }; outcome = o })
+    unfolding outcomeOf
+    planned next moved now at n place size a b c spot byte-spot =
+        let many : n ≡ cond (accepted outcome) (w .n) 0 = spot .1 ∙ sure-is (w .n) 0 in
+        let long : size ≡ cond (accepted outcome) (w .size) 0 = byte-spot .1 ∙ sure-is (w .size) 0 in
+        record {
+          answered = (k .said, next-is next moved now a b c);
+          laid =
+              put outcome room (s .progress .commands) (m .commands) PopDebugGroup at n _ (λ h. fitting rooms s asks (s .progress .phase) true-more h .commands-fit)
+              (spot .0 ∙ sure-is (s .progress .commands) 0) (many ∙ ap (λ (x : ℕ). cond (accepted outcome) x 0) (work .many))
+              (λ h j l. ap (λ (xs : List Command). getD xs j PopDebugGroup) (same-commands place (byte-spot .0) h));
+          put =
+              put outcome bytes (s .progress .bytes) (m .bytes) 0 place size _ (λ h. fitting rooms s asks (s .progress .phase) true-more h .bytes-fit)
+              (byte-spot .0 ∙ sure-is (s .progress .bytes) 0) (long ∙ taken-same (accepted outcome) (w .size) (length (m .bytes)) 0 (λ h. carried h .size))
+              (λ h j l. ap (λ (xs : List ℕ). getD xs j 0) (same-bytes h));
+          commands =
+              λ j l.
+              let t = one-taken (accepted outcome) n (w .n) j many l in
+              let e : length (immediateCommands (descriptorsOf (w .state)) place) ≡ w .n = ap length (same-commands place (byte-spot .0) (t .0)) ∙ sym (work .many) in
+              let f : w .n ≤ 192 = work .few in
+              let g : j < w .n = t .1 in
+              (omega arith, omega arith, same-places place (byte-spot .0) (t .0));
+          sent =
+              λ j l.
+              let t = one-taken (accepted outcome) size (w .size) j long l in
+              let e : length (immediateBytes (w .state .words) (descriptorsOf (w .state))) ≡ w .size = ap length (same-bytes (t .0)) ∙ sym (carried (t .0) .size) in
+              let f : w .size ≤ 192 * 256 = work .small in
+              let g : j < w .size = t .1 in
+              (omega arith, omega arith, good-sent (t .0));
+        }

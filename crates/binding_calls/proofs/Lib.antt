@@ -1,0 +1,4 @@
+pub mod ImmediateBytes
+pub mod ImmediateData
+pub mod ImmediateJudged
+pub mod ImmediatePlanned

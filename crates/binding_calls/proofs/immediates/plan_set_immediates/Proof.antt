@@ -1,0 +1,81 @@
+-- `binding_calls::immediates::plan_set_immediates` meets its contract. Assumes nothing.
+use Rattle.pass.specs.Marks.{Lent}
+use Rattle.binding_calls.proofs.ImmediatePlanned.{verdict, planned}
+use borrow.Author.Needs.{needs}
+use Rattle.binding_calls.proofs.immediates.plan_set_immediates.Statement.{statement}
+use Rattle.binding_calls.proofs.immediates.plan_set_immediates.Tie as tie
+
+out-of-range-requires : tie.Need-out-of-range-requires
+out-of-range-requires c κs = search needs
+
+over-run-requires : tie.Need-over-run-requires
+over-run-requires c κs = search needs
+
+in-pass-requires : tie.Need-in-pass-requires
+in-pass-requires c κs = search needs
+
+immediate-asks-requires : tie.Need-immediate-asks-requires
+immediate-asks-requires c κs = search needs
+
+work-out-requires : tie.Need-work-out-requires
+work-out-requires c κs = search needs
+
+byte-rooms-requires : tie.Need-byte-rooms-requires
+byte-rooms-requires c κs = search needs
+
+judge-requires : tie.Need-judge-requires
+judge-requires c κs = search needs
+
+spot-of-requires : tie.Need-spot-of-requires
+spot-of-requires c κs = search needs
+
+spot-of-requires-2 : tie.Need-spot-of-requires-2
+spot-of-requires-2 c κs = search needs
+
+taken-immediates-requires : tie.Need-taken-immediates-requires
+taken-immediates-requires c κs = search needs
+
+with-progress-requires : tie.Need-with-progress-requires
+with-progress-requires c κs = search needs
+
+with-immediates-requires : tie.Need-with-immediates-requires
+with-immediates-requires c κs = search needs
+
+returns : tie.Need-returns
+returns c =
+    let placed = c .before .before .before .before in
+    let judging = placed .before .before in
+    let working = judging .before .before .before .before in
+    let asking = working .before in
+    let a = asking .before .before .before .before .before .before .before .args in
+    let ws : Lent = record { run = a .words .now; count = a .count } in
+    let w = working .work-out in
+    let v =
+    rw (
+      asking .immediate-asks .ensures,
+      asking .before .in-pass .ensures,
+      asking .before .before .over-run .ensures,
+      asking .before .before .before .out-of-range .ensures,
+      judging .before .byte-rooms .ensures,
+    ) at (judging .judge .ensures) in
+    planned (a .room) (a .bytes-room) (a .s) (a .offset) ws (w .result) (w .ensures) (verdict (a .room) (a .bytes-room) (a .s) (a .offset) ws (w .result) (w .ensures) v)
+    _ _ _ _ _ _ _ (c .with-immediates .ensures) (c .before .with-progress .ensures) (c .before .before .taken-immediates .ensures)
+    (placed .before .spot-of .ensures) (placed .spot-of2 .ensures)
+
+pub plan-set-immediates-spec : {M : Type 1} → statement M
+plan-set-immediates-spec =
+    tie.close
+    (tie.spec
+    out-of-range-requires
+    over-run-requires
+    in-pass-requires
+    immediate-asks-requires
+    work-out-requires
+    byte-rooms-requires
+    judge-requires
+    spot-of-requires
+    spot-of-requires-2
+    taken-immediates-requires
+    with-progress-requires
+    with-immediates-requires
+    returns)

@@ -1,0 +1,2 @@
+// The recording calls of bind groups and immediates.
+pub mod immediates;

@@ -1,0 +1,36 @@
+-- Plans of beginnings of render passes, as the walks have them, and as a function's table spells their types. Assumes nothing.
+use mir.Table.{Table}
+use Rattle.walks.proofs.Args.{of-struct}
+use Rattle.walks.proofs.Filling.{Kinds}
+use Rattle.walks.proofs.Committing.{Plans}
+use Rattle.records.proofs.command.Command as C
+use Rattle.records.proofs.command.Record as R
+use Rattle.records.proofs.state.Answer as A
+use Rattle.calls.proofs.Data.{text, Spells, SpellsE, kindsOf, answer}
+use Rattle.pass_calls.specs.BegunRender.{RenderAllowed, renderAt, renderAnswer}
+use Rattle.pass_calls.proofs.begun_render.RenderBegun as B
+use Rattle.pass_calls.proofs.begun_render.RenderBegun.Laws as B′
+use Rattle.pass_calls.proofs.begun_render.RenderPlan as P
+use Rattle.pass_calls.proofs.begun_render.RenderPlan.Laws as P′
+
+pub record Spelled (Δ : Table) : Type 0 where
+  pub records : Spells Δ R.the-type
+  pub commands : SpellsE Δ C.the-type
+  pub batches : Spells Δ B.the-type
+
+abbrev pub kinds : (Δ : Table) → Spelled Δ → Kinds
+kinds Δ e = kindsOf Δ (e .records) (e .commands) (of-struct B.the-type B′.the-laws B′.the-plain (text Δ B.the-type) (e .batches))
+
+abbrev pub begins : (Δ : Table) → Spelled Δ → Spells Δ P.the-type → Spells Δ A.the-type → Plans
+begins Δ e p a =
+    record {
+      kinds = kinds Δ e;
+      Pl = of-struct P.the-type P′.the-laws P′.the-plain (text Δ P.the-type) p;
+      An = answer Δ a;
+      batch = λ p. p .batch;
+      at = λ b. b .at;
+      n = λ b. b .n;
+      answer = renderAnswer;
+      Allowed = RenderAllowed;
+      commandAt = renderAt;
+    }

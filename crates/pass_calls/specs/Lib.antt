@@ -1,0 +1,4 @@
+pub mod Ended
+pub mod Marked
+pub mod BegunRender
+pub mod BegunCompute

@@ -1,0 +1,8 @@
+// The beginnings and the ends of passes.
+pub mod begins;
+mod begun_compute;
+mod begun_render;
+mod ended;
+pub mod ends;
+mod marked;
+mod taken;

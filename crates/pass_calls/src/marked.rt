@@ -1,0 +1,112 @@
+// What the beginnings of both kinds of pass share: their conditions, their answer, and the label's
+// bytes. The contracts cite specs/Marked.antt.
+ghost use Prim.Native.Nat.{min};
+ghost use mathlib.Core.Path.{_≡_};
+ghost use mathlib.Core.Bool.{cond, not, false as no, _&&_};
+ghost use lib.Dec.{ltb};
+ghost use lib.ListN.{length, getD};
+ghost use Rattle.walks.specs.Fill.{filled};
+ghost use Rattle.pass_calls.specs.Marked.{MarkedOf, LabelFits};
+use crate::taken::taken_pass;
+use calls::judge::Counts;
+use calls::judge::byte_rooms;
+use calls::judge::judge;
+use calls::judge::spot_of;
+use calls::parts::with_pass;
+use calls::parts::with_progress;
+use records::check::within;
+use records::outcome::Conditions;
+use records::outcome::Outcome;
+use records::state::PassState;
+use records::state::Phase;
+use records::state::State;
+
+// The answer, where the commands go and how many they are, and the same of the bytes.
+pub struct Marked {
+    pub next: State,
+    pub outcome: Outcome,
+    pub at: usize,
+    pub n: usize,
+    pub put: usize,
+    pub size: usize,
+}
+
+// How many bytes a label has: no more than it is lent, none where there is no label.
+pub fn label_size(has_label: bool, count: usize, len: usize) -> usize
+    ensures { λ r. ⌜ r ≡ cond «has_label» (min count len) 0 ⌝ }
+{
+    if has_label { within(count, len) } else { 0 }
+}
+
+// A label whose count is above its run.
+pub fn label_short(has_label: bool, count: usize, len: usize) -> bool
+    ensures { λ r. ⌜ r ≡ «has_label» && ltb len count ⌝ }
+{
+    has_label & (len < count)
+}
+
+// The phase, too many places, an index past the set, a wrong kind, and a count above its run.
+pub fn begin_asks(allowed: bool, many: bool, range: bool, kind: bool, short: bool) -> Conditions
+    ensures { λ r. ⌜ r ≡ record { phase = not allowed; many = many; range = range; absent = no; kind = kind; sum = no; room = short } ⌝ }
+{
+    Conditions {
+        phase: !allowed,
+        many,
+        range,
+        absent: false,
+        kind,
+        sum: false,
+        room: short,
+    }
+}
+
+// A call that ends in `phase`, appends `n` commands and `size` bytes, and leaves this pass record.
+pub fn plan_mark(
+    room: usize,
+    bytes_room: usize,
+    s: State,
+    c: Conditions,
+    phase: Phase,
+    n: usize,
+    size: usize,
+    pass: PassState,
+) -> Marked
+    ensures { λ r. ⌜ MarkedOf room «bytes_room» s c phase n size pass r ⌝ }
+{
+    let p = s.progress;
+    let old = s.pass;
+    let rooms = byte_rooms(room, bytes_room);
+    let more = Counts {
+        commands: n,
+        bytes: size,
+        queries: 0,
+    };
+    let v = judge(rooms, s, c, phase, more);
+    let place = spot_of(v.ok, p.commands, n);
+    let mark = spot_of(v.ok, p.bytes, size);
+    let outcome = v.outcome;
+    let progress = v.progress;
+    let pass = taken_pass(v.ok, pass, old);
+    let moved = with_progress(s, progress);
+    let next = with_pass(moved, pass);
+    Marked {
+        next,
+        outcome,
+        at: place.at,
+        n: place.n,
+        put: mark.at,
+        size: mark.n,
+    }
+}
+
+// The label's first bytes, from the place `at` on.
+pub fn copy_label(bytes: &mut [u8], label: &[u8], at: usize, n: usize)
+    requires { ⌜ LabelFits (now label) at n (length (now bytes)) ⌝ }
+    ensures { λ _. ⌜ now (bytes .exit) ≡ filled (λ i. getD (now (label .entry)) i 0) (now (bytes .entry)) at n ⌝ }
+{
+    let mut i: usize = 0;
+    while i < n {
+        bytes[at + i] = label[i];
+        i += 1;
+    }
+}
