@@ -1,3 +1,5 @@
+pub mod GroupMoved
+pub mod GroupPlans
 pub mod ImmediateBytes
 pub mod ImmediateData
 pub mod ImmediateJudged

@@ -1,2 +1,5 @@
-// The recording calls of bind groups and immediates.
+// Bind groups and immediates.
+mod grouped;
+pub mod groups;
+pub mod groups_by_value;
 pub mod immediates;

@@ -70,10 +70,10 @@ module _ (caps : PrivateCapabilities) (s : State) (c : Call) (room part : ℕ) (
       → bytes′ ≡ written bytes (s .progress .bytes) (taken (outcomeOf (byteRooms part (length bytes)) s m) (m .bytes) []) → KeptMarks room caps s c l bytes k bytes′
   kept-marks handed no-queries bytes bytes′ ans laid w = (
     marks-done caps s c handed no-queries (take room l) (take room (k .list)) bytes bytes′ (k .answer) outcome next at n f
-    (subst (λ (x : ℕ). Answered s (outcomeOf (byteRooms x (length bytes)) s m) (stateIn m) outcome next) (sym q) ans)
-    (subst (λ (x : ℕ). Laid x s (outcomeOf (byteRooms x (length bytes)) s m) (m .commands) at n f) (sym q) laid)
-    e (ap (take room) z ∙ filled-part (λ i. recordOf (f i)) l at room n)
-    (subst (λ (x : ℕ). bytes′ ≡ written bytes (s .progress .bytes) (taken (outcomeOf (byteRooms x (length bytes)) s m) (m .bytes) [])) (sym q) w),
+        (subst (λ (x : ℕ). Answered s (outcomeOf (byteRooms x (length bytes)) s m) (stateIn m) outcome next) (sym q) ans)
+        (subst (λ (x : ℕ). Laid x s (outcomeOf (byteRooms x (length bytes)) s m) (m .commands) at n f) (sym q) laid)
+        e (ap (take room) z ∙ filled-part (λ i. recordOf (f i)) l at room n)
+        (subst (λ (x : ℕ). bytes′ ≡ written bytes (s .progress .bytes) (taken (outcomeOf (byteRooms x (length bytes)) s m) (m .bytes) [])) (sym q) w),
     rest (laid .fits),
   )
 
@@ -82,9 +82,9 @@ module _ (caps : PrivateCapabilities) (s : State) (c : Call) (room part : ℕ) (
       → queries′ ≡ written queries (s .progress .queries) (taken (outcomeOf (queryRooms part (length queries)) s m) (m .queries) []) → KeptResolves room caps s c l queries k queries′
   kept-resolves handed no-bytes queries queries′ ans laid w = (
     resolves-done caps s c handed no-bytes (take room l) (take room (k .list)) queries queries′ (k .answer) outcome next at n f
-    (subst (λ (x : ℕ). Answered s (outcomeOf (queryRooms x (length queries)) s m) (stateIn m) outcome next) (sym q) ans)
-    (subst (λ (x : ℕ). Laid x s (outcomeOf (queryRooms x (length queries)) s m) (m .commands) at n f) (sym q) laid)
-    e (ap (take room) z ∙ filled-part (λ i. recordOf (f i)) l at room n)
-    (subst (λ (x : ℕ). queries′ ≡ written queries (s .progress .queries) (taken (outcomeOf (queryRooms x (length queries)) s m) (m .queries) [])) (sym q) w),
+        (subst (λ (x : ℕ). Answered s (outcomeOf (queryRooms x (length queries)) s m) (stateIn m) outcome next) (sym q) ans)
+        (subst (λ (x : ℕ). Laid x s (outcomeOf (queryRooms x (length queries)) s m) (m .commands) at n f) (sym q) laid)
+        e (ap (take room) z ∙ filled-part (λ i. recordOf (f i)) l at room n)
+        (subst (λ (x : ℕ). queries′ ≡ written queries (s .progress .queries) (taken (outcomeOf (queryRooms x (length queries)) s m) (m .queries) [])) (sym q) w),
     rest (laid .fits),
   )
