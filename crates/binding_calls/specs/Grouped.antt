@@ -18,7 +18,7 @@ use Rattle.bindings.specs.Group.{Entry, entriesOf, groupAt, groupCommands, grou
 use Rattle.bindings.specs.Units.{samplerCommands}
 use Rattle.bindings.specs.declared.sweep.Sweep.{Sweep}
 use Rattle.calls.specs.Meaning.{Meaning, inPass}
-use Rattle.calls.specs.Planned.{Laid, Answered, outcomeIn, stateIn}
+use Rattle.calls.specs.Planned.{Right}
 use Rattle.binding_calls.specs.declared.grouped.Grouped.{Grouped}
 use Rattle.binding_calls.specs.declared.grouped.GroupPlan.{GroupPlan}
 
@@ -61,10 +61,7 @@ groupedAt run b i = getD (groupedCommands run b) i PopDebugGroup
 
 -- the plan is right for a call with this meaning
 abbrev pub GroupOf : List ℕ → ℕ → State → Meaning → GroupPlan → Type 0
-GroupOf run room s m p =
-    Answered s (outcomeIn room s m) (stateIn m) (p .outcome) (p .next)
-    × Laid room s (outcomeIn room s m) (m .commands) (p .batch .at) (p .batch .n) (groupedAt run (p .batch))
-    × ((i : ℕ) → i < p .batch .n → GroupAllowed run (p .batch) i)
+GroupOf run room s m p = Right room s m (p .outcome) (p .next) (p .batch .at) (p .batch .n) (groupedAt run (p .batch)) (GroupAllowed run (p .batch))
 
 abbrev pub groupAnswer : GroupPlan → Answer
 groupAnswer p = record { outcome = p .outcome; state = p .next }

@@ -11,3 +11,4 @@ pub mod DrawPlans
 pub mod Moved
 pub mod Index
 pub mod Swapped
+pub mod Pairs

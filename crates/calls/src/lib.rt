@@ -1,4 +1,6 @@
 // Recording calls that are handed the command list alone, or no run, and what all calls share.
+pub mod barriers;
+pub mod barriers_by_value;
 pub mod dispatches;
 pub mod dispatches_by_value;
 mod drawing;

@@ -24,7 +24,7 @@ use records::state::Answer;
 use records::state::State;
 
 // The phase, a number past the set, and a count above its run.
-fn query_asks(allowed: bool, range: bool, short: bool) -> Conditions
+pub fn query_asks(allowed: bool, range: bool, short: bool) -> Conditions
     ensures { λ r. ⌜ r ≡ record { phase = not allowed; many = no; range = range; absent = no; kind = no; sum = no; room = short } ⌝ }
 {
     Conditions {

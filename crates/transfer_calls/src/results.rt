@@ -1,0 +1,117 @@
+// `copy_query_results`. The contracts cite calls/specs/Step.antt and Did.antt.
+ghost use mathlib.Core.Path.{_≡_};
+ghost use Rattle.calls.specs.Call.{copy-query-results};
+ghost use Rattle.calls.specs.Did.{Resolves};
+ghost use Rattle.calls.specs.Step.{copyQueryResults};
+ghost use Rattle.transfer_calls.specs.Resolved.{ResolvedOf};
+use crate::resolved::Resolved;
+use crate::resolved::ResolvedPlan;
+use crate::resolved::commit_resolved;
+use crate::resolved::copy_queries;
+use crate::resolved::query_count;
+use crate::resolved::range_of;
+use calls::judge::Counts;
+use calls::judge::judge;
+use calls::judge::query_rooms;
+use calls::judge::spot_of;
+use calls::parts::with_progress;
+use calls::phase::in_open;
+use calls::queries::query_asks;
+use pass::marks::over_run;
+use records::args::Buffer;
+use records::command::Record;
+use records::pipeline::PrivateCapabilities;
+use records::state::Answer;
+use records::state::State;
+
+// One command, and so many queries.
+fn one_and(queries: usize) -> Counts
+    ensures { λ r. ⌜ r ≡ record { commands = 1; bytes = 0; queries = queries } ⌝ }
+{
+    Counts {
+        commands: 1,
+        bytes: 0,
+        queries,
+    }
+}
+
+pub fn plan_copy_query_results(
+    set: &[u32],
+    room: usize,
+    queries_room: usize,
+    count: usize,
+    target: u32,
+    caps: PrivateCapabilities,
+    s: State,
+    start: u32,
+    end: u32,
+    dst: Buffer,
+    offset: u64,
+) -> ResolvedPlan
+    ensures { λ r. ⌜ ResolvedOf (now (set .entry)) room «queries_room» s (copyQueryResults s (record { queries = record { run = now (set .entry); count = count }; target = target }) start end dst offset) r ⌝ }
+{
+    let p = s.progress;
+    let phase = p.phase;
+    let range = (end < start) | (count < (end as usize));
+    let short = over_run(set, count);
+    let size = query_count(set, count, start, end);
+    let c = query_asks(in_open(phase), range, short);
+    let rooms = query_rooms(room, queries_room);
+    let more = one_and(size);
+    let v = judge(rooms, s, c, phase, more);
+    let place = spot_of(v.ok, p.commands, 1);
+    let put = spot_of(v.ok, p.queries, size);
+    // Of a call that is turned away no query is read.
+    let from = spot_of(v.ok, start as usize, 0);
+    let range = range_of(put.at, put.n);
+    let outcome = v.outcome;
+    let progress = v.progress;
+    let next = with_progress(s, progress);
+    ResolvedPlan {
+        next,
+        batch: Resolved {
+            at: place.at,
+            n: place.n,
+            range,
+            dst: dst.raw,
+            target: dst.target,
+            offset,
+        },
+        outcome,
+        from: from.at,
+        to: put.at,
+        size: put.n,
+    }
+}
+
+pub fn copy_query_results(
+    list: &mut [Record],
+    queries: &mut [u32],
+    set: &[u32],
+    count: usize,
+    target: u32,
+    caps: PrivateCapabilities,
+    s: State,
+    start: u32,
+    end: u32,
+    dst: Buffer,
+    offset: u64,
+) -> Answer
+    ensures { λ r. ⌜ Resolves caps s (copy-query-results (record { queries = record { run = now (set .entry); count = count }; target = target }) start end dst offset) (now (list .entry)) (now (queries .entry)) r (now (list .exit)) (now (queries .exit)) ⌝ }
+{
+    let plan = plan_copy_query_results(
+        set,
+        list.len(),
+        queries.len(),
+        count,
+        target,
+        caps,
+        s,
+        start,
+        end,
+        dst,
+        offset,
+    );
+    copy_queries(queries, set, plan);
+    commit_resolved(list, plan)
+}
