@@ -20,7 +20,7 @@ use Rattle.pass.specs.Marks.{popLabel, timestamp}
 use Rattle.pass.specs.Render.{endRenderCommands}
 use Rattle.calls.specs.Meaning.{Meaning, inRender, inCompute, listRun, free}
 use Rattle.calls.specs.Parts.{withVertex, withFixed, withPass}
-use Rattle.calls.specs.Planned.{Laid, Answered, outcomeIn, stateIn}
+use Rattle.calls.specs.Planned.{Right}
 use Rattle.pass_calls.specs.declared.ended.Ended.{Ended}
 use Rattle.pass_calls.specs.declared.ended.EndPlan.{EndPlan}
 
@@ -61,10 +61,7 @@ endedAt b i = getD (endedCommands b) i PopDebugGroup
 
 -- a plan is right for a meaning
 abbrev pub EndOf : ℕ → State → Meaning → EndPlan → Type 0
-EndOf room s m p =
-    Answered s (outcomeIn room s m) (stateIn m) (p .outcome) (p .next)
-    × Laid room s (outcomeIn room s m) (m .commands) (p .batch .at) (p .batch .n) (endedAt (p .batch))
-    × ((i : ℕ) → i < p .batch .n → EndAllowed (p .batch) i)
+EndOf room s m p = Right room s m (p .outcome) (p .next) (p .batch .at) (p .batch .n) (endedAt (p .batch)) (EndAllowed (p .batch))
 
 -- the answer of a plan
 abbrev pub endAnswer : EndPlan → Answer

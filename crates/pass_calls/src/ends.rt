@@ -48,7 +48,7 @@ fn end_fixed(f: FixedState) -> FixedState
     }
 }
 
-fn plan_end_render_pass(room: usize, caps: PrivateCapabilities, s: State) -> EndPlan
+pub fn plan_end_render_pass(room: usize, caps: PrivateCapabilities, s: State) -> EndPlan
     ensures { λ r. ⌜ EndOf room s (endRender s) r ⌝ }
 {
     let old_vertex = s.vertex;
@@ -67,7 +67,7 @@ pub fn end_render_pass(list: &mut [Record], caps: PrivateCapabilities, s: State)
     commit_ended(list, plan)
 }
 
-fn plan_end_compute_pass(room: usize, caps: PrivateCapabilities, s: State) -> EndPlan
+pub fn plan_end_compute_pass(room: usize, caps: PrivateCapabilities, s: State) -> EndPlan
     ensures { λ r. ⌜ EndOf room s (endCompute s) r ⌝ }
 {
     let vertex = s.vertex;

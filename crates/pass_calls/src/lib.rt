@@ -2,6 +2,7 @@
 pub mod begins;
 mod begun_compute;
 mod begun_render;
+pub mod by_value;
 mod ended;
 pub mod ends;
 mod marked;

@@ -1,0 +1,47 @@
+-- `flat::inner::take_descs` is safe and ends. Assumes nothing.
+use Prim.Native.Nat.{_-_}
+use native.Mathlib.Omega.{arith}
+use borrow.Author.Needs.{needs}
+use Rattle.flat.proofs.inner.take_descs.Statement.{statement}
+use Rattle.flat.proofs.inner.take_descs.Tie as tie
+
+abbrev Inv-loop : tie.InvT-loop
+Inv-loop line t reads descs₀ i₀ descs i = Unit {0}
+
+abbrev μ-loop : tie.MeasureT-loop
+μ-loop line t reads descs₀ i₀ descs i = reads - i
+
+take-length-requires : tie.Need-take-length-requires Inv-loop μ-loop
+take-length-requires c κs = search needs
+
+loop-holds : tie.Need-loop-holds Inv-loop μ-loop
+loop-holds c = tt
+
+add-desc-requires : tie.Need-add-desc-requires Inv-loop μ-loop
+add-desc-requires c κs = search needs
+
+add-i : tie.Need-add-i Inv-loop μ-loop
+add-i c = omega arith
+
+loop-less : tie.Need-loop-less Inv-loop μ-loop
+loop-less c = omega arith
+
+loop-again : tie.Need-loop-again Inv-loop μ-loop
+loop-again c = tt
+
+returns : tie.Need-returns Inv-loop μ-loop
+returns c = omega arith
+
+pub take-descs-spec : {M : Type 1} → statement M
+take-descs-spec =
+    tie.close
+    (tie.spec
+    Inv-loop
+    μ-loop
+    take-length-requires
+    loop-holds
+    add-desc-requires
+    add-i
+    loop-less
+    loop-again
+    returns)

@@ -1,0 +1,51 @@
+-- `flat::targets::take_targets` is safe and ends. Assumes nothing.
+use Prim.Native.Nat.{_-_}
+use native.Mathlib.Omega.{arith}
+use borrow.Author.Needs.{needs}
+use Rattle.flat.proofs.targets.take_targets.Statement.{statement}
+use Rattle.flat.proofs.targets.take_targets.Tie as tie
+
+abbrev Inv-loop : tie.InvT-loop
+Inv-loop line t reads targets₀ i₀ targets i = Unit {0}
+
+abbrev μ-loop : tie.MeasureT-loop
+μ-loop line t reads targets₀ i₀ targets i = reads - i
+
+take-length-requires : tie.Need-take-length-requires Inv-loop μ-loop
+take-length-requires c κs = search needs
+
+new-requires : tie.Need-new-requires Inv-loop μ-loop
+new-requires c κs = search needs
+
+loop-holds : tie.Need-loop-holds Inv-loop μ-loop
+loop-holds c = tt
+
+add-target-requires : tie.Need-add-target-requires Inv-loop μ-loop
+add-target-requires c κs = search needs
+
+add-i : tie.Need-add-i Inv-loop μ-loop
+add-i c = omega arith
+
+loop-less : tie.Need-loop-less Inv-loop μ-loop
+loop-less c = omega arith
+
+loop-again : tie.Need-loop-again Inv-loop μ-loop
+loop-again c = tt
+
+returns : tie.Need-returns Inv-loop μ-loop
+returns c = omega arith
+
+pub take-targets-spec : {M : Type 1} → statement M
+take-targets-spec =
+    tie.close
+    (tie.spec
+    Inv-loop
+    μ-loop
+    take-length-requires
+    new-requires
+    loop-holds
+    add-target-requires
+    add-i
+    loop-less
+    loop-again
+    returns)
