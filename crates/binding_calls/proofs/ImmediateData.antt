@@ -23,12 +23,12 @@ use Rattle.calls.specs.Planned.{byteRooms}
 use Rattle.calls.specs.Step.{setImmediates, outcomeOf}
 use Rattle.calls.proofs.Data.{text, Spells, SpellsE, kindsOf, answer}
 use Rattle.calls.proofs.Listed.{marks-done, numbers-put}
-use Rattle.binding_calls.specs.declared.immediates.ImmediatePlan.{ImmediatePlan}
+use Rattle.binding_calls.specs.declared.sending.ImmediatePlan.{ImmediatePlan}
 use Rattle.binding_calls.specs.ImmediatePlans.{SendAllowed, sentAt, byteAt, BytesFit, bytesSent, ImmediateOf, immediateAnswer}
-use Rattle.binding_calls.proofs.immediates.Sending as B
-use Rattle.binding_calls.proofs.immediates.Sending.Laws as B′
-use Rattle.binding_calls.proofs.immediates.ImmediatePlan as P
-use Rattle.binding_calls.proofs.immediates.ImmediatePlan.Laws as P′
+use Rattle.binding_calls.proofs.sending.Sending as B
+use Rattle.binding_calls.proofs.sending.Sending.Laws as B′
+use Rattle.binding_calls.proofs.sending.ImmediatePlan as P
+use Rattle.binding_calls.proofs.sending.ImmediatePlan.Laws as P′
 
 pub record Spelled (Δ : Table) : Type 0 where
   pub records : Spells Δ R.the-type

@@ -26,7 +26,7 @@ use Rattle.calls.specs.Planned.{byteRooms}
 use Rattle.calls.specs.Step.{setImmediates, outcomeOf}
 use Rattle.calls.proofs.Judged.{neither, none-holds, within, fitting}
 use Rattle.calls.proofs.Plans.{put, moved-or-not}
-use Rattle.binding_calls.specs.declared.immediates.Worked.{Worked}
+use Rattle.binding_calls.specs.declared.sending.Worked.{Worked}
 use Rattle.binding_calls.specs.ImmediatePlans.{Right, WorkedOf, ImmediateOf}
 use Rattle.binding_calls.proofs.ImmediateJudged.{before, clear, Found, found}
 

@@ -3,4 +3,5 @@ pub mod GroupPlans
 pub mod ImmediateBytes
 pub mod ImmediateData
 pub mod ImmediateJudged
+pub mod ImmediateKept
 pub mod ImmediatePlanned

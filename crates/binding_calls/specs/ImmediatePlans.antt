@@ -16,9 +16,9 @@ use Rattle.bindings.specs.Placed.{placesOf}
 use Rattle.calls.specs.Meaning.{Meaning}
 use Rattle.calls.specs.Planned.{byteRooms, Put, Laid, Answered, stateIn}
 use Rattle.calls.specs.Step.{outcomeOf}
-use Rattle.binding_calls.specs.declared.immediates.Worked.{Worked}
-use Rattle.binding_calls.specs.declared.immediates.Sending.{Sending}
-use Rattle.binding_calls.specs.declared.immediates.ImmediatePlan.{ImmediatePlan}
+use Rattle.binding_calls.specs.declared.sending.Worked.{Worked}
+use Rattle.binding_calls.specs.declared.sending.Sending.{Sending}
+use Rattle.binding_calls.specs.declared.sending.ImmediatePlan.{ImmediatePlan}
 
 -- the state with its new words, the places of the descriptors' bytes, and how many bytes there are
 pub record Right (ws : List ℕ) (count : ℕ) (i : ImmediateState) (offset used : ℕ) (w : Worked) : Type 0 where

@@ -3,3 +3,5 @@ mod grouped;
 pub mod groups;
 pub mod groups_by_value;
 pub mod immediates;
+pub mod immediates_by_value;
+mod sending;

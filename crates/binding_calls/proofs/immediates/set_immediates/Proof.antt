@@ -11,12 +11,12 @@ use Rattle.calls.specs.Step.{setImmediates}
 use Rattle.calls.proofs.Data.{board, state}
 use Rattle.binding_calls.specs.ImmediatePlans.{BytesFit, bytesSent, ImmediateOf}
 use Rattle.binding_calls.proofs.ImmediateData.{Spelled, sendings, immediates-fit, immediates-done}
-use Rattle.binding_calls.proofs.immediates.plan_set_immediates.Symbol as plan
-use Rattle.binding_calls.proofs.immediates.plan_set_immediates.Met as plan-thm
-use Rattle.binding_calls.proofs.immediates.write_bytes.Symbol as copier
-use Rattle.binding_calls.proofs.immediates.write_bytes.Met as copier-thm
-use Rattle.binding_calls.proofs.immediates.commit_immediates.Symbol as commit
-use Rattle.binding_calls.proofs.immediates.commit_immediates.Met as commit-thm
+use Rattle.binding_calls.proofs.sending.plan_set_immediates.Symbol as plan
+use Rattle.binding_calls.proofs.sending.plan_set_immediates.Met as plan-thm
+use Rattle.binding_calls.proofs.sending.write_bytes.Symbol as copier
+use Rattle.binding_calls.proofs.sending.write_bytes.Met as copier-thm
+use Rattle.binding_calls.proofs.sending.commit_immediates.Symbol as commit
+use Rattle.binding_calls.proofs.sending.commit_immediates.Met as commit-thm
 use Rattle.binding_calls.proofs.immediates.set_immediates.Key as key
 use Rattle.binding_calls.proofs.immediates.set_immediates.Statement.{statement}
 use Rattle.binding_calls.proofs.immediates.set_immediates.Code as code
@@ -37,5 +37,5 @@ set-immediates-spec 𝓤 H 𝓜 𝓖 𝓡 =
     (λ ys bs ls d zs bs′ r. Marks (d .1 .0) (d .1 .1 .0) (set-immediates (d .1 .1 .1 .0) (record { run = ls; count = d .0 })) ys bs r zs bs′)
     (λ ls n m d p h. immediates-fit n m (d .1 .1 .0) _ p h)
     (λ ys bs ls d zs bs′ r p h e w. immediates-done (d .1 .0) (d .1 .1 .0) (d .1 .1 .1 .0) (record { run = ls; count = d .0 }) ys zs bs bs′ r p h e w) 𝓤 H 𝓜 𝓖 𝓡
-    code.env key.name plan.name copier.name commit.name (code.unfolded 𝓤 H 𝓜 𝓡) commit.routine code.calls-binding-calls·immediates·commit-immediates (commit-thm.met 𝓤 H 𝓜 𝓖 𝓡)
-    copier.routine code.calls-binding-calls·immediates·write-bytes (copier-thm.met 𝓤 H 𝓜 𝓖 𝓡) plan.routine code.calls-binding-calls·immediates·plan-set-immediates (plan-thm.met 𝓤 H 𝓜 𝓖 𝓡)
+    code.env key.name plan.name copier.name commit.name (code.unfolded 𝓤 H 𝓜 𝓡) commit.routine code.calls-binding-calls·sending·commit-immediates (commit-thm.met 𝓤 H 𝓜 𝓖 𝓡)
+    copier.routine code.calls-binding-calls·sending·write-bytes (copier-thm.met 𝓤 H 𝓜 𝓖 𝓡) plan.routine code.calls-binding-calls·sending·plan-set-immediates (plan-thm.met 𝓤 H 𝓜 𝓖 𝓡)

@@ -1,8 +1,8 @@
--- `binding_calls::immediates::sent_command` meets its contract. Assumes nothing.
+-- `binding_calls::sending::sent_command` meets its contract. Assumes nothing.
 use Rattle.records.specs.declared.command.Command.the-variants.{PopDebugGroup}
 use borrow.Author.Needs.{needs}
-use Rattle.binding_calls.proofs.immediates.sent_command.Statement.{statement}
-use Rattle.binding_calls.proofs.immediates.sent_command.Tie as tie
+use Rattle.binding_calls.proofs.sending.sent_command.Statement.{statement}
+use Rattle.binding_calls.proofs.sending.sent_command.Tie as tie
 
 cast-immediate-command-at : tie.Need-cast-immediate-command-at
 cast-immediate-command-at c = search needs

@@ -1,4 +1,4 @@
--- `binding_calls::immediates::write_bytes` meets its contract. Invariant: the first i bytes are written. Measure: the bytes left. Assumes nothing.
+-- `binding_calls::sending::write_bytes` meets its contract. Invariant: the first i bytes are written. Measure: the bytes left. Assumes nothing.
 use Prim.Native.Nat.{ℕ, _-_, _+_, _*_, _<_, _≤_}
 use mathlib.Core.Path.{_≡_, sym}
 use native.Mathlib.Omega.{arith}
@@ -8,8 +8,8 @@ use Rattle.walks.proofs.Filled.{filled-none}
 use Rattle.records.specs.declared.state.ImmediateState.{ImmediateState}
 use Rattle.bindings.specs.Immediates.{descriptorsOf, immediateBytes}
 use Rattle.binding_calls.proofs.ImmediateBytes.{Front, front-length, front-more, front-end}
-use Rattle.binding_calls.proofs.immediates.write_bytes.Statement.{statement}
-use Rattle.binding_calls.proofs.immediates.write_bytes.Tie as tie
+use Rattle.binding_calls.proofs.sending.write_bytes.Statement.{statement}
+use Rattle.binding_calls.proofs.sending.write_bytes.Tie as tie
 
 abbrev byte : ImmediateState → ℕ → ℕ
 byte i j = getD (immediateBytes (i .words) (descriptorsOf i)) j 0

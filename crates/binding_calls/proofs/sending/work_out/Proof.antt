@@ -1,4 +1,4 @@
--- `binding_calls::immediates::work_out` meets its contract. Assumes nothing.
+-- `binding_calls::sending::work_out` meets its contract. Assumes nothing.
 use Prim.Native.Nat.{_≤_}
 use mathlib.Core.Path.{_≡_, sym, ap, _∙_}
 use native.Mathlib.Omega.{arith}
@@ -10,8 +10,8 @@ use Rattle.bindings.specs.Placed.{placesOf, commands-long}
 use Rattle.bindings.proofs.Bytes.{counted-long}
 use Rattle.bindings.proofs.Long.{words-long}
 use borrow.Author.Needs.{needs}
-use Rattle.binding_calls.proofs.immediates.work_out.Statement.{statement}
-use Rattle.binding_calls.proofs.immediates.work_out.Tie as tie
+use Rattle.binding_calls.proofs.sending.work_out.Statement.{statement}
+use Rattle.binding_calls.proofs.sending.work_out.Tie as tie
 
 immediates-after-requires : tie.Need-immediates-after-requires
 immediates-after-requires c κs = search needs

@@ -1,9 +1,9 @@
--- `binding_calls::immediates::plan_set_immediates` meets its contract. Assumes nothing.
+-- `binding_calls::sending::plan_set_immediates` meets its contract. Assumes nothing.
 use Rattle.pass.specs.Marks.{Lent}
 use Rattle.binding_calls.proofs.ImmediatePlanned.{verdict, planned}
 use borrow.Author.Needs.{needs}
-use Rattle.binding_calls.proofs.immediates.plan_set_immediates.Statement.{statement}
-use Rattle.binding_calls.proofs.immediates.plan_set_immediates.Tie as tie
+use Rattle.binding_calls.proofs.sending.plan_set_immediates.Statement.{statement}
+use Rattle.binding_calls.proofs.sending.plan_set_immediates.Tie as tie
 
 out-of-range-requires : tie.Need-out-of-range-requires
 out-of-range-requires c κs = search needs

@@ -1,0 +1,244 @@
+// `set_immediates`: the plan, and how its commands and its marker bytes are written. The contracts
+// cite specs/ImmediatePlans.antt.
+ghost use Prim.Native.Nat.{ℕ, _+_, _<_, _≤_};
+ghost use mathlib.Core.Path.{_≡_};
+ghost use mathlib.Core.Bool.{cond, not, false as no};
+ghost use lib.ListN.{length};
+ghost use Rattle.walks.specs.Fill.{filled};
+ghost use Rattle.calls.specs.Did.{recordOf};
+ghost use Rattle.calls.specs.Step.{setImmediates};
+ghost use Rattle.binding_calls.specs.ImmediatePlans.{WorkedOf, SendAllowed, sentAt, BytesFit, bytesSent, ImmediateOf, immediateAnswer};
+use bindings::immediate_command::Placed;
+use bindings::immediate_command::immediate_byte_at;
+use bindings::immediate_command::immediate_command_at;
+use bindings::immediate_command::place_descriptors;
+use bindings::immediates::immediates_after;
+use bindings::immediates::out_of_range;
+use calls::judge::Counts;
+use calls::judge::byte_rooms;
+use calls::judge::judge;
+use calls::judge::spot_of;
+use calls::parts::with_immediates;
+use calls::parts::with_progress;
+use calls::phase::in_pass;
+use pass::marks::over_run;
+use records::check::within;
+use records::command::Command;
+use records::command::Record;
+use records::limits::MAX_BYTES;
+use records::limits::MAX_COMMANDS;
+use records::limits::MAX_IMMEDIATES_COMMANDS;
+use records::outcome::Conditions;
+use records::outcome::Outcome;
+use records::pipeline::PrivateCapabilities;
+use records::state::Answer;
+use records::state::ImmediateState;
+use records::state::State;
+
+// What a call sends: the state with its words written, the places of the descriptors' bytes, how
+// many commands and bytes there are.
+pub struct Worked {
+    pub state: ImmediateState,
+    pub placed: Placed,
+    pub n: usize,
+    pub size: usize,
+}
+
+// Where the commands and the bytes go, how many they are, and what they are worked out from.
+pub struct Sending {
+    pub at: usize,
+    pub n: usize,
+    pub put: usize,
+    pub size: usize,
+    pub state: ImmediateState,
+    pub placed: Placed,
+}
+
+pub struct ImmediatePlan {
+    pub next: State,
+    pub batch: Sending,
+    pub outcome: Outcome,
+}
+
+fn sent_command(batch: Sending, i: usize) -> Command
+    requires { ⌜ SendAllowed batch i ⌝ }
+    ensures { λ r. ⌜ r ≡ sentAt batch i ⌝ }
+{
+    let state = batch.state;
+    let placed = batch.placed;
+    immediate_command_at(state, placed, i as u32)
+}
+
+fn fill_sent(list: &mut [Record], at: usize, n: usize, batch: Sending)
+    requires { ⌜ (at + n ≤ length (now list)) × ((i : ℕ) → i < n → SendAllowed batch i) ⌝ }
+    ensures { λ _. ⌜ now (list .exit) ≡ filled (λ i. recordOf (sentAt batch i)) (now (list .entry)) at n ⌝ }
+{
+    let mut i: usize = 0;
+    while i < n {
+        let c = sent_command(batch, i);
+        list[at + i] = Record { command: c };
+        i += 1;
+    }
+}
+
+fn sent_batch(plan: ImmediatePlan) -> Sending
+    ensures { λ r. ⌜ r ≡ plan .batch ⌝ }
+{
+    plan.batch
+}
+
+fn sent_at(batch: Sending) -> usize
+    ensures { λ r. ⌜ r ≡ batch .at ⌝ }
+{
+    batch.at
+}
+
+fn sent_count(batch: Sending) -> usize
+    ensures { λ r. ⌜ r ≡ batch .n ⌝ }
+{
+    batch.n
+}
+
+pub fn sent_answer(plan: ImmediatePlan) -> Answer
+    ensures { λ r. ⌜ r ≡ immediateAnswer plan ⌝ }
+{
+    let state = plan.next;
+    let outcome = plan.outcome;
+    Answer { outcome, state }
+}
+
+pub fn commit_immediates(list: &mut [Record], plan: ImmediatePlan) -> Answer
+    requires { ⌜ (plan .batch .at + plan .batch .n ≤ length (now list)) × ((i : ℕ) → i < plan .batch .n → SendAllowed (plan .batch) i) ⌝ }
+    ensures { λ r. ⌜ (r ≡ immediateAnswer plan) × (now (list .exit) ≡ filled (λ i. recordOf (sentAt (plan .batch) i)) (now (list .entry)) (plan .batch .at) (plan .batch .n)) ⌝ }
+{
+    let batch = sent_batch(plan);
+    let at = sent_at(batch);
+    let n = sent_count(batch);
+    fill_sent(list, at, n, batch);
+    sent_answer(plan)
+}
+
+// The same into a list by value.
+pub fn keep_sent(list: [Record; MAX_COMMANDS], plan: ImmediatePlan) -> [Record; MAX_COMMANDS]
+    requires { ⌜ (plan .batch .at + plan .batch .n ≤ 4096) × ((i : ℕ) → i < plan .batch .n → SendAllowed (plan .batch) i) ⌝ }
+    ensures { λ r. ⌜ r ≡ filled (λ i. recordOf (sentAt (plan .batch) i)) list (plan .batch .at) (plan .batch .n) ⌝ }
+{
+    let batch = plan.batch;
+    let at = batch.at;
+    let n = batch.n;
+    let mut next = list;
+    let mut i: usize = 0;
+    while i < n {
+        let c = sent_command(batch, i);
+        next[at + i] = Record { command: c };
+        i += 1;
+    }
+    next
+}
+
+// The bytes of the plan. The words are not read: the plan has them.
+pub fn write_bytes(bytes: &mut [u8], words: &[u32], plan: ImmediatePlan)
+    requires { ⌜ BytesFit plan (length (now bytes)) ⌝ }
+    ensures { λ _. ⌜ now (bytes .exit) ≡ bytesSent plan (now (bytes .entry)) ⌝ }
+{
+    let batch = plan.batch;
+    let state = batch.state;
+    let at = batch.put;
+    let n = batch.size;
+    let mut i: usize = 0;
+    while i < n {
+        bytes[at + i] = immediate_byte_at(state, i as u32);
+        i += 1;
+    }
+}
+
+// What a call sends that writes `count` words from the byte `offset` on, with `used` marker bytes
+// before it.
+fn work_out(words: &[u32], count: usize, i: ImmediateState, offset: u32, used: usize) -> Worked
+    ensures { λ r. ⌜ WorkedOf (now (words .entry)) count i offset used r ⌝ }
+{
+    let after = immediates_after(words, count, i, offset);
+    let first = within(used, MAX_BYTES);
+    let placed = place_descriptors(i, first as u32);
+    let n = within(i.count, MAX_IMMEDIATES_COMMANDS);
+    let size = placed.total as usize;
+    Worked {
+        state: after,
+        placed,
+        n,
+        size,
+    }
+}
+
+// The phase, words out of range, and a count above its run.
+fn immediate_asks(allowed: bool, range: bool, short: bool) -> Conditions
+    ensures { λ r. ⌜ r ≡ record { phase = not allowed; many = no; range = range; absent = no; kind = no; sum = no; room = short } ⌝ }
+{
+    Conditions {
+        phase: !allowed,
+        many: false,
+        range,
+        absent: false,
+        kind: false,
+        sum: false,
+        room: short,
+    }
+}
+
+// The new words, or what they were.
+fn taken_immediates(ok: bool, new: ImmediateState, old: ImmediateState) -> ImmediateState
+    ensures { λ r. ⌜ r ≡ cond ok new old ⌝ }
+{
+    if ok {
+        return new;
+    }
+    old
+}
+
+pub fn plan_set_immediates(
+    words: &[u32],
+    room: usize,
+    bytes_room: usize,
+    count: usize,
+    caps: PrivateCapabilities,
+    s: State,
+    offset: u32,
+) -> ImmediatePlan
+    ensures { λ r. ⌜ ImmediateOf room «bytes_room» s (setImmediates s offset (record { run = now (words .entry); count = count })) r ⌝ }
+{
+    let p = s.progress;
+    let phase = p.phase;
+    let old = s.immediates;
+    let range = out_of_range(offset, count);
+    let short = over_run(words, count);
+    let c = immediate_asks(in_pass(phase), range, short);
+    let w = work_out(words, count, old, offset, p.bytes);
+    let state = w.state;
+    let placed = w.placed;
+    let rooms = byte_rooms(room, bytes_room);
+    let more = Counts {
+        commands: w.n,
+        bytes: w.size,
+        queries: 0,
+    };
+    let v = judge(rooms, s, c, phase, more);
+    let place = spot_of(v.ok, p.commands, w.n);
+    let put = spot_of(v.ok, p.bytes, w.size);
+    let outcome = v.outcome;
+    let progress = v.progress;
+    let immediates = taken_immediates(v.ok, state, old);
+    let moved = with_progress(s, progress);
+    let next = with_immediates(moved, immediates);
+    ImmediatePlan {
+        next,
+        batch: Sending {
+            at: place.at,
+            n: place.n,
+            put: put.at,
+            size: put.n,
+            state,
+            placed,
+        },
+        outcome,
+    }
+}
