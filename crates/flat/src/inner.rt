@@ -1,12 +1,9 @@
 // What both kinds of pipeline have.
 use crate::cursor::Cursor;
-use crate::cursor::is_right;
-use crate::cursor::take_bool;
 use crate::cursor::take_u32;
-use crate::small::TakenOption;
 use crate::small::take_length;
 use crate::small::take_option;
-use crate::small::take_u8;
+use crate::small::take_option_u8;
 use records::command::ImmediateDesc;
 use records::command::OptionU32;
 use records::limits::MAX_IMMEDIATES_COMMANDS;
@@ -90,23 +87,6 @@ fn take_descs(line: &[u8], c: Cursor) -> TakenDescs {
     }
 }
 
-fn take_sampler(line: &[u8], c: Cursor) -> TakenOption {
-    let some = take_bool(line, c);
-    let after = some.next;
-    if some.value {
-        let t = take_u8(line, after);
-        let next = t.next;
-        return TakenOption {
-            value: OptionU32::Some(t.value),
-            next,
-        };
-    }
-    TakenOption {
-        value: OptionU32::None,
-        next: after,
-    }
-}
-
 struct Samplers {
     map: [SamplerBind; MAX_TEXTURE_SLOTS],
     next: Cursor,
@@ -114,7 +94,7 @@ struct Samplers {
 
 fn add_sampler(line: &[u8], samplers: Samplers, i: usize) -> Samplers {
     let c = samplers.next;
-    let t = take_sampler(line, c);
+    let t = take_option_u8(line, c);
     let next = t.next;
     let mut map = samplers.map;
     if i < MAX_TEXTURE_SLOTS {

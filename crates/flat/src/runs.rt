@@ -1,6 +1,5 @@
 // Lists of numbers, read into a lent run; a list that the run has no room for is wrong.
 ghost use Prim.Native.Nat.{_*_, _≤_};
-ghost use lib.ListN.{length};
 use crate::cursor::Cursor;
 use crate::cursor::take;
 use crate::cursor::take_count;

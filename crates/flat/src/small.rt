@@ -1,5 +1,5 @@
-// Small arguments: numbers of other widths, optional numbers, floats from their bits, and the records
-// of a few numbers.
+// Small arguments: numbers of other widths, optional numbers, floats from their bits, and records of
+// a few numbers.
 use crate::cursor::Cursor;
 use crate::cursor::Taken;
 use crate::cursor::TakenU32;
@@ -20,8 +20,9 @@ use records::command::OptionU32;
 use records::command::RangeU32;
 use records::state::IndexFormat;
 
-pub fn take_u8(line: &[u8], c: Cursor) -> TakenU32 {
-    let t = take(line, c, 255);
+// A number that is at most `most`.
+fn take_up_to(line: &[u8], c: Cursor, most: u32) -> TakenU32 {
+    let t = take(line, c, most as u64);
     let next = t.next;
     TakenU32 {
         value: t.value as u32,
@@ -29,21 +30,20 @@ pub fn take_u8(line: &[u8], c: Cursor) -> TakenU32 {
     }
 }
 
+pub fn take_u8(line: &[u8], c: Cursor) -> TakenU32 {
+    take_up_to(line, c, 255)
+}
+
 pub fn take_u16(line: &[u8], c: Cursor) -> TakenU32 {
-    let t = take(line, c, 65535);
-    let next = t.next;
-    TakenU32 {
-        value: t.value as u32,
-        next,
-    }
+    take_up_to(line, c, 65535)
 }
 
 pub fn take_u64(line: &[u8], c: Cursor) -> Taken {
     take(line, c, 18446744073709551615)
 }
 
-// The count of a list that no run bounds, and how many elements to read: those that are past the
-// line's length would find the line at its end.
+// The count of a list that no run bounds, and how many elements to read: no more than the line has
+// bytes. Each element has a digit, so a larger count still ends wrong.
 pub struct TakenLength {
     pub count: usize,
     pub reads: usize,
@@ -65,11 +65,12 @@ pub struct TakenOption {
     pub next: Cursor,
 }
 
-pub fn take_option(line: &[u8], c: Cursor) -> TakenOption {
+// None, or a number that is at most `most`.
+fn take_option_up_to(line: &[u8], c: Cursor, most: u32) -> TakenOption {
     let some = take_bool(line, c);
     let after = some.next;
     if some.value {
-        let t = take_u32(line, after);
+        let t = take_up_to(line, after, most);
         let next = t.next;
         return TakenOption {
             value: OptionU32::Some(t.value),
@@ -80,6 +81,14 @@ pub fn take_option(line: &[u8], c: Cursor) -> TakenOption {
         value: OptionU32::None,
         next: after,
     }
+}
+
+pub fn take_option(line: &[u8], c: Cursor) -> TakenOption {
+    take_option_up_to(line, c, 4294967295)
+}
+
+pub fn take_option_u8(line: &[u8], c: Cursor) -> TakenOption {
+    take_option_up_to(line, c, 255)
 }
 
 pub struct TakenF32 {
