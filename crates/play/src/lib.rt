@@ -1,12 +1,12 @@
 // Sessions in the flat form, played line by line over a list by value, and printed.
-mod bindings;
-mod dispatches;
-mod draws;
-mod passes;
-mod pipelines;
-pub mod play;
+mod binding_lines;
+mod dispatch_lines;
+mod draw_lines;
+pub mod line;
+mod pass_lines;
+mod pipeline_lines;
 pub mod played;
 pub mod print;
-mod queries;
-mod settings;
-mod transfers;
+mod query_lines;
+mod setting_lines;
+mod transfer_lines;

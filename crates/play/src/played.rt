@@ -13,7 +13,7 @@ pub struct Played {
     pub next: Cursor,
 }
 
-pub fn played(kept: Kept, next: Cursor) -> Played {
+pub fn of_kept(kept: Kept, next: Cursor) -> Played {
     let list = kept.list;
     let answer = kept.answer;
     Played { list, answer, next }

@@ -3,7 +3,7 @@ use flat::cursor::Cursor;
 use flat::cursor::start;
 use flat::cursor::take_bool;
 use flat::cursor::take_count;
-use play::play::closed;
+use play::line::closed;
 use records::limits::MAX_BYTES;
 use records::limits::MAX_COMMANDS;
 use records::limits::MAX_QUERIES;

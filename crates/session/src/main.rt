@@ -1,6 +1,6 @@
 // The sample session: tools/session/sample.txt in the flat form, played over a list by value. It
 // prints the list.
-use play::play::play;
+use play::line::play;
 use play::played::Played;
 use play::print::flush;
 use play::print::put_commands;

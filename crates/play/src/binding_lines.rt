@@ -1,6 +1,6 @@
 // Bind groups and immediates, by their lines.
 use crate::played::Played;
-use crate::played::played;
+use crate::played::of_kept;
 use binding_calls::groups_by_value::set_bind_group_by_value;
 use binding_calls::immediates_by_value::set_immediates_by_value;
 use flat::cursor::Cursor;
@@ -38,7 +38,7 @@ pub fn play_set_bind_group(
         entries,
         group,
     );
-    played(kept, next)
+    of_kept(kept, next)
 }
 
 pub fn play_set_immediates(
@@ -65,5 +65,5 @@ pub fn play_set_immediates(
         s,
         offset.value,
     );
-    played(kept, next)
+    of_kept(kept, next)
 }

@@ -1,6 +1,6 @@
 // Transitions and copies, by their lines.
 use crate::played::Played;
-use crate::played::played;
+use crate::played::of_kept;
 use calls::barriers_by_value::transition_textures_by_value;
 use flat::cursor::Cursor;
 use flat::runs::take_barriers;
@@ -26,7 +26,7 @@ pub fn play_transition_buffers(
     let t = take_barriers(line, c, numbers);
     let next = t.next;
     let kept = transition_buffers_by_value(list, room, numbers, t.count, caps, s);
-    played(kept, next)
+    of_kept(kept, next)
 }
 
 pub fn play_transition_textures(
@@ -41,7 +41,7 @@ pub fn play_transition_textures(
     let t = take_uses(line, c, numbers);
     let next = t.next;
     let kept = transition_textures_by_value(list, room, numbers, t.count, caps, s);
-    played(kept, next)
+    of_kept(kept, next)
 }
 
 pub fn play_copy_buffer_to_buffer(
@@ -62,5 +62,5 @@ pub fn play_copy_buffer_to_buffer(
     let dst = destination.value;
     let next = t.next;
     let kept = copy_buffer_to_buffer_by_value(list, room, regions, t.count, caps, s, src, dst);
-    played(kept, next)
+    of_kept(kept, next)
 }

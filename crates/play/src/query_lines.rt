@@ -1,7 +1,7 @@
 // Queries, by their lines.
 use crate::played::Played;
 use crate::played::answered;
-use crate::played::played;
+use crate::played::of_kept;
 use calls::queries::reset_queries;
 use calls::queries_by_value::begin_query_by_value;
 use calls::queries_by_value::end_query_by_value;
@@ -40,7 +40,7 @@ pub fn play_begin_query(
         s,
         index.value,
     );
-    played(kept, next)
+    of_kept(kept, next)
 }
 
 pub fn play_end_query(
@@ -66,7 +66,7 @@ pub fn play_end_query(
         s,
         index.value,
     );
-    played(kept, next)
+    of_kept(kept, next)
 }
 
 pub fn play_write_timestamp(
@@ -92,7 +92,7 @@ pub fn play_write_timestamp(
         s,
         index.value,
     );
-    played(kept, next)
+    of_kept(kept, next)
 }
 
 pub fn play_reset_queries(
@@ -159,5 +159,5 @@ pub fn play_copy_query_results(
         dst,
         offset.value,
     );
-    played(kept, next)
+    of_kept(kept, next)
 }

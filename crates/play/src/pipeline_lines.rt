@@ -1,6 +1,6 @@
 // Pipelines, by their lines.
 use crate::played::Played;
-use crate::played::played;
+use crate::played::of_kept;
 use flat::cursor::Cursor;
 use flat::pipeline::take_compute_pipeline;
 use flat::pipeline::take_render_pipeline;
@@ -24,7 +24,7 @@ pub fn play_set_render_pipeline(
     let value = p.value;
     let next = after_p;
     let kept = set_render_pipeline_by_value(list, room, caps, s, value);
-    played(kept, next)
+    of_kept(kept, next)
 }
 
 pub fn play_set_compute_pipeline(
@@ -40,5 +40,5 @@ pub fn play_set_compute_pipeline(
     let value = p.value;
     let next = after_p;
     let kept = set_compute_pipeline_by_value(list, room, caps, s, value);
-    played(kept, next)
+    of_kept(kept, next)
 }

@@ -1,6 +1,6 @@
 // Draws, by their lines.
 use crate::played::Played;
-use crate::played::played;
+use crate::played::of_kept;
 use calls::draws_by_value::draw_by_value;
 use calls::draws_by_value::draw_indexed_by_value;
 use calls::draws_by_value::draw_indexed_indirect_by_value;
@@ -42,7 +42,7 @@ pub fn play_draw(
         first_instance.value,
         instance_count.value,
     );
-    played(kept, next)
+    of_kept(kept, next)
 }
 
 pub fn play_draw_indexed(
@@ -75,7 +75,7 @@ pub fn play_draw_indexed(
         first_instance.value,
         instance_count.value,
     );
-    played(kept, next)
+    of_kept(kept, next)
 }
 
 pub fn play_draw_indirect(
@@ -103,7 +103,7 @@ pub fn play_draw_indirect(
         offset.value,
         draw_count.value,
     );
-    played(kept, next)
+    of_kept(kept, next)
 }
 
 pub fn play_draw_indexed_indirect(
@@ -131,5 +131,5 @@ pub fn play_draw_indexed_indirect(
         offset.value,
         draw_count.value,
     );
-    played(kept, next)
+    of_kept(kept, next)
 }

@@ -1,6 +1,6 @@
 // Settings of a render pass, by their lines.
 use crate::played::Played;
-use crate::played::played;
+use crate::played::of_kept;
 use calls::settings_by_value::set_blend_constants_by_value;
 use calls::settings_by_value::set_index_buffer_by_value;
 use calls::settings_by_value::set_scissor_rect_by_value;
@@ -38,7 +38,7 @@ pub fn play_set_index_buffer(
     let kind = format.value;
     let next = after_format;
     let kept = set_index_buffer_by_value(list, room, caps, s, value.raw, offset.value, kind);
-    played(kept, next)
+    of_kept(kept, next)
 }
 
 pub fn play_set_viewport(
@@ -57,7 +57,7 @@ pub fn play_set_viewport(
     let range = depth.value;
     let next = after_depth;
     let kept = set_viewport_by_value(list, room, caps, s, area, range);
-    played(kept, next)
+    of_kept(kept, next)
 }
 
 pub fn play_set_scissor_rect(
@@ -73,7 +73,7 @@ pub fn play_set_scissor_rect(
     let area = rect.value;
     let next = after_rect;
     let kept = set_scissor_rect_by_value(list, room, caps, s, area);
-    played(kept, next)
+    of_kept(kept, next)
 }
 
 pub fn play_set_blend_constants(
@@ -89,7 +89,7 @@ pub fn play_set_blend_constants(
     let value = color.value;
     let next = after_color;
     let kept = set_blend_constants_by_value(list, room, caps, s, value);
-    played(kept, next)
+    of_kept(kept, next)
 }
 
 pub fn play_set_stencil_reference(
@@ -104,5 +104,5 @@ pub fn play_set_stencil_reference(
     let after_reference = reference.next;
     let next = after_reference;
     let kept = set_stencil_reference_by_value(list, room, caps, s, reference.value);
-    played(kept, next)
+    of_kept(kept, next)
 }

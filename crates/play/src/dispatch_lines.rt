@@ -1,6 +1,6 @@
 // Dispatches, and the clearing of a buffer, by their lines.
 use crate::played::Played;
-use crate::played::played;
+use crate::played::of_kept;
 use calls::dispatches_by_value::clear_buffer_by_value;
 use calls::dispatches_by_value::dispatch_workgroups_by_value;
 use calls::dispatches_by_value::dispatch_workgroups_indirect_by_value;
@@ -30,7 +30,7 @@ pub fn play_dispatch_workgroups(
     let after_z = z.next;
     let next = after_z;
     let kept = dispatch_workgroups_by_value(list, room, caps, s, x.value, y.value, z.value);
-    played(kept, next)
+    of_kept(kept, next)
 }
 
 pub fn play_dispatch_workgroups_indirect(
@@ -48,7 +48,7 @@ pub fn play_dispatch_workgroups_indirect(
     let after_offset = offset.next;
     let next = after_offset;
     let kept = dispatch_workgroups_indirect_by_value(list, room, caps, s, value.raw, offset.value);
-    played(kept, next)
+    of_kept(kept, next)
 }
 
 pub fn play_clear_buffer(
@@ -67,5 +67,5 @@ pub fn play_clear_buffer(
     let span = range.value;
     let next = after_range;
     let kept = clear_buffer_by_value(list, room, caps, s, target, span);
-    played(kept, next)
+    of_kept(kept, next)
 }

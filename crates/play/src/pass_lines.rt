@@ -1,7 +1,7 @@
 // Encodings and passes, and the vertex buffers, by their lines.
 use crate::played::Played;
 use crate::played::answered;
-use crate::played::played;
+use crate::played::of_kept;
 use calls::encoding::begin_encoding;
 use calls::encoding::end_encoding;
 use calls::encoding::set_vertex_buffer;
@@ -47,7 +47,7 @@ pub fn play_begin_render_pass(
         s,
         d,
     );
-    played(kept, next)
+    of_kept(kept, next)
 }
 
 pub fn play_begin_compute_pass(
@@ -77,7 +77,7 @@ pub fn play_begin_compute_pass(
         s,
         writes,
     );
-    played(kept, next)
+    of_kept(kept, next)
 }
 
 pub fn play_end_render_pass(
@@ -88,7 +88,7 @@ pub fn play_end_render_pass(
     s: State,
 ) -> Played {
     let kept = end_render_pass_by_value(list, room, caps, s);
-    played(kept, c)
+    of_kept(kept, c)
 }
 
 pub fn play_end_compute_pass(
@@ -99,7 +99,7 @@ pub fn play_end_compute_pass(
     s: State,
 ) -> Played {
     let kept = end_compute_pass_by_value(list, room, caps, s);
-    played(kept, c)
+    of_kept(kept, c)
 }
 
 pub fn play_begin_encoding(
