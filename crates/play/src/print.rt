@@ -19,18 +19,24 @@ pub fn flush(out: &[u8], used: usize) -> usize {
     0
 }
 
+// Byte i of what is laid from `at` on, where it fits.
+fn lay_byte(out: &mut [u8], at: usize, i: usize, byte: u8) {
+    if out.len() <= at {
+        return;
+    }
+    if out.len() - at <= i {
+        return;
+    }
+    out[at + i] = byte;
+}
+
 // The bytes of `text`, where they fit.
-fn lay(out: &mut [u8], at: usize, text: &[u8]) -> usize {
+fn lay(out: &mut [u8], at: usize, text: &[u8]) {
     let mut i: usize = 0;
     while i < text.len() {
-        if at < out.len() {
-            if i < out.len() - at {
-                out[at + i] = text[i];
-            }
-        }
+        lay_byte(out, at, i, text[i]);
         i += 1;
     }
-    at
 }
 
 pub fn put(out: &mut [u8], used: usize, text: &[u8]) -> usize {
@@ -111,17 +117,24 @@ fn put_byte(out: &mut [u8], used: usize, byte: u8) -> usize {
     put(out, used, &text)
 }
 
-// The marker bytes of a list.
-pub fn put_bytes(out: &mut [u8], used: usize, bytes: &[u8], count: usize) -> usize {
+fn put_each_byte(out: &mut [u8], used: usize, bytes: &[u8], count: usize) -> usize {
     let n = within(count, bytes.len());
-    let mut at = put(out, used, b"bytes ");
-    at = put_number(out, at, n as u64);
+    let mut at = used;
     let mut i: usize = 0;
     while i < n {
         at = put_byte(out, at, bytes[i]);
         i += 1;
     }
-    put(out, at, b"\n")
+    at
+}
+
+// The marker bytes of a list.
+pub fn put_bytes(out: &mut [u8], used: usize, bytes: &[u8], count: usize) -> usize {
+    let n = within(count, bytes.len());
+    let named = put(out, used, b"bytes ");
+    let counted = put_number(out, named, n as u64);
+    let told = put_each_byte(out, counted, bytes, n);
+    put(out, told, b"\n")
 }
 
 fn put_word(out: &mut [u8], used: usize, number: u64) -> usize {
@@ -129,17 +142,28 @@ fn put_word(out: &mut [u8], used: usize, number: u64) -> usize {
     put_number(out, at, number)
 }
 
+fn put_query(out: &mut [u8], used: usize, query: u32) -> usize {
+    put_word(out, used, query as u64)
+}
+
+fn put_each_query(out: &mut [u8], used: usize, queries: &[u32], count: usize) -> usize {
+    let n = within(count, queries.len());
+    let mut at = used;
+    let mut i: usize = 0;
+    while i < n {
+        at = put_query(out, at, queries[i]);
+        i += 1;
+    }
+    at
+}
+
 // The queries of a list.
 pub fn put_queries(out: &mut [u8], used: usize, queries: &[u32], count: usize) -> usize {
     let n = within(count, queries.len());
-    let mut at = put(out, used, b"queries ");
-    at = put_number(out, at, n as u64);
-    let mut i: usize = 0;
-    while i < n {
-        at = put_word(out, at, queries[i] as u64);
-        i += 1;
-    }
-    put(out, at, b"\n")
+    let named = put(out, used, b"queries ");
+    let counted = put_number(out, named, n as u64);
+    let told = put_each_query(out, counted, queries, n);
+    put(out, told, b"\n")
 }
 
 fn put_answer(out: &mut [u8], used: usize, number: usize, answer: u8) -> usize {

@@ -1,53 +1,41 @@
+-- `play::print::lay` is safe and ends. Invariant: the buffer keeps its length. Measure: the bytes left. Assumes nothing.
+use Prim.Native.Nat.{_-_}
+use mathlib.Core.Path.{_≡_, refl, _∙_}
+use native.Mathlib.Omega.{arith}
+use lib.ListN.{length}
+use borrow.Author.Needs.{needs}
 use Rattle.play.proofs.print.lay.Statement.{statement}
 use Rattle.play.proofs.print.lay.Tie as tie
-use Rattle.play.proofs.print.lay.Reads as reads
-use Rattle.play.proofs.print.lay.Lts as lts
 
 abbrev Inv-loop : tie.InvT-loop
-Inv-loop out₀ at text i₀ out i = ?
+Inv-loop out₀ at text i₀ out i = length out ≡ length out₀
 
 abbrev μ-loop : tie.MeasureT-loop
-μ-loop out₀ at text i₀ out i = ?
+μ-loop out₀ at text i₀ out i = length text - i
 
--- src/print.rt:25:5
 loop-holds : tie.Need-loop-holds Inv-loop μ-loop
-loop-holds c = ?
+loop-holds c = refl
 
--- src/print.rt:27:20
-sub-if2 : tie.Need-sub-if2 Inv-loop μ-loop
-sub-if2 c = ?
+shared-slice-read-lay-byte : tie.Need-shared-slice-read-lay-byte Inv-loop μ-loop
+shared-slice-read-lay-byte c = omega arith
 
--- src/print.rt:28:31
-shared-slice-read-out : tie.Need-shared-slice-read-out Inv-loop μ-loop
-shared-slice-read-out c = ?
+lay-byte-requires : tie.Need-lay-byte-requires Inv-loop μ-loop
+lay-byte-requires c κs = search needs
 
--- src/print.rt:28:21
-add-out : tie.Need-add-out Inv-loop μ-loop
-add-out c = ?
-
--- src/print.rt:28:17
-slice-write-out : tie.Need-slice-write-out Inv-loop μ-loop
-slice-write-out c = ?
-
--- src/print.rt:31:9
 add-i : tie.Need-add-i Inv-loop μ-loop
-add-i c = ?
+add-i c = omega arith
 
--- src/print.rt:25:5
 loop-less : tie.Need-loop-less Inv-loop μ-loop
-loop-less c = ?
+loop-less c = omega arith
 
--- src/print.rt:25:5
 loop-again : tie.Need-loop-again Inv-loop μ-loop
-loop-again c = ?
+loop-again c = c .before .before .lay-byte .kept .0 ∙ c .before .before .before .before .before .before .loop .inv
 
--- src/print.rt:23:1
 same-length : tie.Need-same-length Inv-loop μ-loop
-same-length c = ?
+same-length c = c .before .loop .inv
 
--- src/print.rt:23:1
 returns : tie.Need-returns Inv-loop μ-loop
-returns c = ?
+returns c = omega arith
 
 pub lay-spec : {M : Type 1} → statement M
 lay-spec =
@@ -56,10 +44,8 @@ lay-spec =
     Inv-loop
     μ-loop
     loop-holds
-    sub-if2
-    shared-slice-read-out
-    add-out
-    slice-write-out
+    shared-slice-read-lay-byte
+    lay-byte-requires
     add-i
     loop-less
     loop-again

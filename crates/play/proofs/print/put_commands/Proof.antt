@@ -1,55 +1,47 @@
+-- `play::print::put_commands` is safe and ends. Invariant: the buffer keeps its length. Measure: the commands left. Assumes nothing.
+use Prim.Native.Nat.{_-_, _≤_}
+use mathlib.Core.Path.{_≡_, refl, _∙_}
+use native.Mathlib.Omega.{arith}
+use lib.ListN.{length}
+use borrow.Author.Needs.{needs}
 use Rattle.play.proofs.print.put_commands.Statement.{statement}
 use Rattle.play.proofs.print.put_commands.Tie as tie
-use Rattle.play.proofs.print.put_commands.Reads as reads
-use Rattle.play.proofs.print.put_commands.Lts as lts
-use Rattle.play.proofs.print.put_command.Reads as put-command-reads
-use Rattle.records.proofs.check.within.Reads as within-reads
 
 abbrev Inv-loop : tie.InvT-loop
-Inv-loop out₀ used count list n at₀ i₀ out at i = ?
+Inv-loop out₀ used count list n at₀ i₀ out at i = (length out ≡ length out₀) × (n ≤ 4096)
 
 abbrev μ-loop : tie.MeasureT-loop
-μ-loop out₀ used count list n at₀ i₀ out at i = ?
+μ-loop out₀ used count list n at₀ i₀ out at i = n - i
 
--- src/print.rt:92:9
 within-requires : tie.Need-within-requires Inv-loop μ-loop
-within-requires c κs = ?
+within-requires c κs = search needs
 
--- src/print.rt:95:5
 loop-holds : tie.Need-loop-holds Inv-loop μ-loop
-loop-holds c = ?
+loop-holds c = (refl, omega arith)
 
--- src/print.rt:96:17
 mul-r : tie.Need-mul-r Inv-loop μ-loop
-mul-r c = ?
+mul-r c = omega arith
 
--- src/print.rt:96:17
 array-copy-out-r : tie.Need-array-copy-out-r Inv-loop μ-loop
-array-copy-out-r c = ?
+array-copy-out-r c = omega arith
 
--- src/print.rt:98:9
 put-command-requires : tie.Need-put-command-requires Inv-loop μ-loop
-put-command-requires c κs = ?
+put-command-requires c κs = search needs
 
--- src/print.rt:99:9
 add-i : tie.Need-add-i Inv-loop μ-loop
-add-i c = ?
+add-i c = omega arith
 
--- src/print.rt:95:5
 loop-less : tie.Need-loop-less Inv-loop μ-loop
-loop-less c = ?
+loop-less c = omega arith
 
--- src/print.rt:95:5
 loop-again : tie.Need-loop-again Inv-loop μ-loop
-loop-again c = ?
+loop-again c = (c .before .before .put-command .kept .0 ∙ c .before .before .before .before .before .before .loop .inv .0, c .before .before .before .before .before .before .loop .inv .1)
 
--- src/print.rt:86:1
 same-length : tie.Need-same-length Inv-loop μ-loop
-same-length c = ?
+same-length c = c .before .loop .inv .0
 
--- src/print.rt:86:1
 returns : tie.Need-returns Inv-loop μ-loop
-returns c = ?
+returns c = omega arith
 
 pub put-commands-spec : {M : Type 1} → statement M
 put-commands-spec =
