@@ -19,12 +19,10 @@ use Rattle.records.proofs.command.Record as R
 use Rattle.records.proofs.state.Answer as A
 use Rattle.calls.specs.Call.{Call}
 use Rattle.calls.specs.Did.{Lists, recordOf}
-use Rattle.calls.specs.Kept.{KeptLists}
 use Rattle.calls.specs.Meaning.{Meaning}
 use Rattle.calls.specs.Planned.{listRooms}
 use Rattle.calls.specs.Step.{meaning}
 use Rattle.calls.proofs.Listed.{lists-done}
-use Rattle.calls.proofs.Keeping.{kept-lists}
 use Rattle.calls.proofs.Data.{text, Spells, SpellsE, kindsOf, answer}
 use Rattle.binding_calls.specs.declared.grouped.GroupPlan.{GroupPlan}
 use Rattle.binding_calls.specs.Grouped.{GroupAllowed, GroupOf, groupedAt, groupAnswer}
@@ -59,11 +57,6 @@ groups Δ e p a =
 pub group-fits : (run : List ℕ) (room : ℕ) (s : State) (m : Meaning) (p : GroupPlan) → GroupOf run room s m p → (p .batch .at + p .batch .n ≤ room) × ((i : ℕ) → i < p .batch .n → GroupAllowed run (p .batch) i)
 group-fits run room s m p h = (h .1 .fits, h .2)
 
--- the same over a list by value
-pub group-keeps : (run : List ℕ) (room part : ℕ) (s : State) (m : Meaning) (p : GroupPlan) → part ≡ min room 4096 → GroupOf run part s m p
-    → (p .batch .at + p .batch .n ≤ 4096) × ((i : ℕ) → i < p .batch .n → GroupAllowed run (p .batch) i)
-group-keeps run room part s m p e h = let f : p .batch .at + p .batch .n ≤ part = h .1 .fits in (omega arith, h .2)
-
 -- a call that is handed the list alone
 module _ (caps : PrivateCapabilities) (s : State) (c : Call) (alone : (r : Rooms) → meaning caps s c .handed r ≡ listRooms (r .commands)) (no-bytes : meaning caps s c .bytes ≡ []) (no-queries : meaning caps s c .queries ≡ []) (run : List ℕ) where
   -- written, a plan that is right is the call
@@ -71,9 +64,3 @@ module _ (caps : PrivateCapabilities) (s : State) (c : Call) (alone : (r : Rooms
       → (a ≡ groupAnswer p) × (l′ ≡ filled (λ i. recordOf (groupedAt run (p .batch) i)) l (p .batch .at) (p .batch .n)) → Lists caps s c l a l′
   group-done l l′ a p h e =
       lists-done caps s c alone no-bytes no-queries l l′ a (p .outcome) (p .next) (p .batch .at) (p .batch .n) (groupedAt run (p .batch)) (h .0) (h .1) (e .0) (e .1)
-
-  -- the same over a list by value
-  pub group-kept : (room part : ℕ) (l next : List Record) → length l ≡ 4096 → part ≡ min room 4096 → (a : Answer) (p : GroupPlan) → GroupOf run part s (meaning caps s c) p
-      → a ≡ groupAnswer p → next ≡ filled (λ i. recordOf (groupedAt run (p .batch) i)) l (p .batch .at) (p .batch .n) → KeptLists room caps s c l (record { list = next; answer = a })
-  group-kept room part l next long q a p h e z =
-      kept-lists caps s c alone no-bytes no-queries room part l long q (record { list = next; answer = a }) (p .outcome) (p .next) (p .batch .at) (p .batch .n) (groupedAt run (p .batch)) (h .0) (h .1) e z

@@ -3,5 +3,4 @@ pub mod GroupPlans
 pub mod ImmediateBytes
 pub mod ImmediateData
 pub mod ImmediateJudged
-pub mod ImmediateKept
 pub mod ImmediatePlanned

@@ -12,7 +12,6 @@ use records::binding::GroupEntries;
 use records::binding::PipelineLayout;
 use records::command::Command;
 use records::command::Record;
-use records::limits::MAX_COMMANDS;
 use records::outcome::Outcome;
 use records::state::Answer;
 use records::state::BindState;
@@ -39,7 +38,7 @@ pub struct GroupPlan {
     pub outcome: Outcome,
 }
 
-fn group_command(offsets: &[u32], batch: Grouped, i: usize) -> Command
+pub fn group_command(offsets: &[u32], batch: Grouped, i: usize) -> Command
     requires { ⌜ GroupAllowed (now offsets) batch i ⌝ }
     ensures { λ r. ⌜ r ≡ groupedAt (now (offsets .entry)) batch i ⌝ }
 {
@@ -108,26 +107,4 @@ pub fn commit_group(list: &mut [Record], offsets: &[u32], plan: GroupPlan) -> An
     let n = group_count(batch);
     fill_group(list, offsets, at, n, batch);
     group_answer(plan)
-}
-
-// The same into a list by value.
-pub fn keep_group(
-    list: [Record; MAX_COMMANDS],
-    offsets: &[u32],
-    plan: GroupPlan,
-) -> [Record; MAX_COMMANDS]
-    requires { ⌜ (plan .batch .at + plan .batch .n ≤ 4096) × ((i : ℕ) → i < plan .batch .n → GroupAllowed (now offsets) (plan .batch) i) ⌝ }
-    ensures { λ r. ⌜ r ≡ filled (λ i. recordOf (groupedAt (now (offsets .entry)) (plan .batch) i)) list (plan .batch .at) (plan .batch .n) ⌝ }
-{
-    let batch = plan.batch;
-    let at = batch.at;
-    let n = batch.n;
-    let mut next = list;
-    let mut i: usize = 0;
-    while i < n {
-        let c = group_command(offsets, batch, i);
-        next[at + i] = Record { command: c };
-        i += 1;
-    }
-    next
 }

@@ -26,7 +26,6 @@ use records::check::within;
 use records::command::Command;
 use records::command::Record;
 use records::limits::MAX_BYTES;
-use records::limits::MAX_COMMANDS;
 use records::limits::MAX_IMMEDIATES_COMMANDS;
 use records::outcome::Conditions;
 use records::outcome::Outcome;
@@ -60,7 +59,7 @@ pub struct ImmediatePlan {
     pub outcome: Outcome,
 }
 
-fn sent_command(batch: Sending, i: usize) -> Command
+pub fn sent_command(batch: Sending, i: usize) -> Command
     requires { ⌜ SendAllowed batch i ⌝ }
     ensures { λ r. ⌜ r ≡ sentAt batch i ⌝ }
 {
@@ -116,24 +115,6 @@ pub fn commit_immediates(list: &mut [Record], plan: ImmediatePlan) -> Answer
     let n = sent_count(batch);
     fill_sent(list, at, n, batch);
     sent_answer(plan)
-}
-
-// The same into a list by value.
-pub fn keep_sent(list: [Record; MAX_COMMANDS], plan: ImmediatePlan) -> [Record; MAX_COMMANDS]
-    requires { ⌜ (plan .batch .at + plan .batch .n ≤ 4096) × ((i : ℕ) → i < plan .batch .n → SendAllowed (plan .batch) i) ⌝ }
-    ensures { λ r. ⌜ r ≡ filled (λ i. recordOf (sentAt (plan .batch) i)) list (plan .batch .at) (plan .batch .n) ⌝ }
-{
-    let batch = plan.batch;
-    let at = batch.at;
-    let n = batch.n;
-    let mut next = list;
-    let mut i: usize = 0;
-    while i < n {
-        let c = sent_command(batch, i);
-        next[at + i] = Record { command: c };
-        i += 1;
-    }
-    next
 }
 
 // The bytes of the plan. The words are not read: the plan has them.

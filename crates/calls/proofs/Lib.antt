@@ -1,14 +1,7 @@
 pub mod Judged
 pub mod Limit
 pub mod Data
-pub mod Ones
 pub mod Plans
 pub mod Listed
-pub mod Keeping
-pub mod Whole
-pub mod Owns
-pub mod DrawPlans
 pub mod Moved
-pub mod Index
-pub mod Swapped
-pub mod Pairs
+pub mod Alone

@@ -1,33 +1,20 @@
 -- The state with a part changed where a call is carried through. Assumes nothing.
-use Prim.Native.Nat.{ℕ}
 use mathlib.Core.Bool.{Bool, true, false, cond}
 use mathlib.Core.Path.{_≡_, refl, ap, _∙_}
 use Rattle.records.specs.declared.state.DrawState.{DrawState}
 use Rattle.records.specs.declared.state.Progress.{Progress}
 use Rattle.records.specs.declared.state.State.{State}
 use Rattle.records.specs.declared.state.VertexState.{VertexState}
-use Rattle.calls.specs.Drawn.{stepped}
 use Rattle.calls.specs.Parts.{withProgress, withVertex, withDraw}
 
 vertex-next : (t : Bool) (new : VertexState) (s : State) (p : Progress) → withVertex (cond t new (s .vertex)) (withProgress p s) ≡ withProgress p (cond t (withVertex new s) s)
 vertex-next true new s p = refl
 vertex-next false new s p = refl
 
-pub stepped-or-not : (t : Bool) (v : VertexState) (dirty w : ℕ) → stepped v (cond t dirty (v .«dirty_vbuf_mask»)) (cond t w (v .«active_first_instance»)) ≡ cond t (stepped v dirty w) v
-stepped-or-not true v dirty w = refl
-stepped-or-not false v dirty w = refl
-
 pub slots-moved : (t ok : Bool) (new : VertexState) (s moved x : State) (p : Progress) (v : VertexState) → x ≡ withVertex v moved → moved ≡ withProgress p s → v ≡ cond ok new (s .vertex) → ok ≡ t
     → x ≡ withProgress p (cond t (withVertex new s) s)
 slots-moved t ok new s moved x p v e m a b =
     e ∙ ap (withVertex v) m ∙ ap (λ (y : VertexState). withVertex y (withProgress p s)) (a ∙ ap (λ (y : Bool). cond y new (s .vertex)) b) ∙ vertex-next t new s p
-
--- the same, where the dirty mask and the instance are what changes
-pub vertex-moved : (t ok : Bool) (dirty w : ℕ) (new : VertexState) (s moved x : State) (p : Progress) (v : VertexState) → x ≡ withVertex v moved → moved ≡ withProgress p s
-    → v ≡ cond ok (stepped (s .vertex) dirty w) (s .vertex) → ok ≡ t → dirty ≡ new .«dirty_vbuf_mask» → stepped (s .vertex) (new .«dirty_vbuf_mask») w ≡ new
-    → x ≡ withProgress p (cond t (withVertex new s) s)
-vertex-moved t ok dirty w new s moved x p v e m a b d n =
-    slots-moved t ok new s moved x p v e m (a ∙ ap (λ (y : VertexState). cond ok y (s .vertex)) (ap (λ (y : ℕ). stepped (s .vertex) y w) d ∙ n)) b
 
 draw-next : (t : Bool) (new : DrawState) (s : State) (p : Progress) → withDraw (cond t new (s .draw)) (withProgress p s) ≡ withProgress p (cond t (withDraw new s) s)
 draw-next true new s p = refl

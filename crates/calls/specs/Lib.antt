@@ -9,6 +9,3 @@ pub mod Did
 pub mod Witness
 pub mod Judge
 pub mod Planned
-pub mod One
-pub mod Drawn
-pub mod Kept

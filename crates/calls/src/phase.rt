@@ -100,3 +100,18 @@ pub fn in_phase_with(allowed: bool, absent: bool) -> Conditions
         room: false,
     }
 }
+
+// The phase, a number past a set, and a count above its run.
+pub fn run_asks(allowed: bool, range: bool, short: bool) -> Conditions
+    ensures { λ r. ⌜ r ≡ record { phase = not allowed; many = no; range = range; absent = no; kind = no; sum = no; room = short } ⌝ }
+{
+    Conditions {
+        phase: !allowed,
+        many: false,
+        range,
+        absent: false,
+        kind: false,
+        sum: false,
+        room: short,
+    }
+}

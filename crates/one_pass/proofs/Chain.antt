@@ -11,8 +11,8 @@ use Rattle.records.specs.declared.state.State.{State}
 use Rattle.pass.specs.Marks.{Lent, Label}
 use Rattle.calls.specs.Call.{begin-encoding, begin-render-pass, set-render-pipeline, set-vertex-buffer, draw, end-render-pass, end-encoding}
 use Rattle.calls.specs.Did.{Keeps}
-use Rattle.calls.specs.Kept.{KeptLists, KeptMarks}
-use Rattle.calls.specs.declared.kept.Kept.{Kept}
+use Rattle.one_pass.specs.Kept.{KeptLists, KeptMarks}
+use Rattle.one_pass.specs.declared.kept.Kept.{Kept}
 use Rattle.order.specs.Ran.{Ran, done, then}
 use Rattle.one_pass.specs.Script.{passOf, runsOf, Shoots, Records}
 use Rattle.one_pass.specs.declared.Shot.{Shot}

@@ -10,7 +10,7 @@ use Rattle.records.specs.declared.state.State.{State}
 use Rattle.calls.specs.Call.{Call, begin-encoding}
 use Rattle.calls.specs.Did.{Did, Runs, roomsOf}
 use Rattle.calls.specs.Step.{step, outcomeOf}
-use Rattle.calls.specs.declared.kept.Kept.{Kept}
+use Rattle.one_pass.specs.declared.kept.Kept.{Kept}
 use Rattle.calls.proofs.Listed.{keeps-done}
 use Rattle.order.specs.Machine.{fresh, play}
 use Rattle.order.specs.Book.{empty, bookOf}

@@ -1,2 +1,4 @@
+pub mod Keeping
+pub mod BegunKept
 pub mod Chain
 pub mod InOrder

@@ -11,7 +11,7 @@ use Rattle.records.specs.declared.state.State.{State}
 use Rattle.pass.specs.Marks.{Lent, Label}
 use Rattle.calls.specs.Call.{Call, begin-render-pass, set-render-pipeline, set-vertex-buffer, draw, end-render-pass, end-encoding}
 use Rattle.calls.specs.Did.{Runs, roomsOf}
-use Rattle.calls.specs.declared.kept.Kept.{Kept}
+use Rattle.one_pass.specs.declared.kept.Kept.{Kept}
 use Rattle.order.specs.Run.{begun}
 use Rattle.order.specs.Ran.{Ran}
 use Rattle.one_pass.specs.declared.Shot.{Shot}

@@ -1,15 +1,19 @@
 // A whole list, recorded by one function: `begin_encoding`, a render pass with one pipeline, one
 // vertex buffer and one draw, and `end_encoding`. The contract cites specs/Script.antt; what the
 // order theorem says of it stands in proofs/InOrder.antt.
+mod by_value;
+mod keeping;
+pub mod kept;
+
 ghost use Rattle.one_pass.specs.Script.{passOf, Shoots, Records};
-use calls::draws_by_value::draw_by_value;
+use crate::by_value::begin_render_pass_by_value;
+use crate::by_value::draw_by_value;
+use crate::by_value::end_render_pass_by_value;
+use crate::by_value::set_render_pipeline_by_value;
+use crate::kept::Kept;
 use calls::encoding::begin_encoding;
 use calls::encoding::end_encoding;
 use calls::encoding::set_vertex_buffer;
-use calls::kept::Kept;
-use pass_calls::by_value::begin_render_pass_by_value;
-use pass_calls::by_value::end_render_pass_by_value;
-use pipeline_calls::by_value::set_render_pipeline_by_value;
 use records::command::Record;
 use records::limits::MAX_COMMANDS;
 use records::pass::RenderPassDescriptor;

@@ -3,7 +3,6 @@ pub mod EndPlans
 pub mod Copied
 pub mod Labels
 pub mod Begun
-pub mod BegunKept
 pub mod RenderCommands
 pub mod RenderRight
 pub mod ComputeRight

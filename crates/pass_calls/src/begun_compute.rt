@@ -24,7 +24,6 @@ use pass::render::begin_compute_pass;
 use records::command::Command;
 use records::command::OptionU32;
 use records::command::Record;
-use records::limits::MAX_COMMANDS;
 use records::outcome::Outcome;
 use records::pass::OptionTimestampWrites;
 use records::pipeline::PrivateCapabilities;
@@ -51,7 +50,7 @@ pub struct ComputePlan {
     pub size: usize,
 }
 
-fn compute_command(batch: ComputeBegun, i: usize) -> Command
+pub fn compute_command(batch: ComputeBegun, i: usize) -> Command
     requires { ⌜ ComputeAllowed batch i ⌝ }
     ensures { λ r. ⌜ r ≡ computeAt batch i ⌝ }
 {
@@ -106,24 +105,6 @@ pub fn commit_compute(list: &mut [Record], plan: ComputePlan) -> Answer
     let n = compute_count(batch);
     fill_compute(list, at, n, batch);
     compute_answer(plan)
-}
-
-// The same into a list by value.
-pub fn keep_compute(list: [Record; MAX_COMMANDS], plan: ComputePlan) -> [Record; MAX_COMMANDS]
-    requires { ⌜ (plan .batch .at + plan .batch .n ≤ 4096) × ((i : ℕ) → i < plan .batch .n → ComputeAllowed (plan .batch) i) ⌝ }
-    ensures { λ r. ⌜ r ≡ filled (λ i. recordOf (computeAt (plan .batch) i)) list (plan .batch .at) (plan .batch .n) ⌝ }
-{
-    let batch = plan.batch;
-    let at = batch.at;
-    let n = batch.n;
-    let mut next = list;
-    let mut i: usize = 0;
-    while i < n {
-        let c = compute_command(batch, i);
-        next[at + i] = Record { command: c };
-        i += 1;
-    }
-    next
 }
 
 pub fn write_compute_label(bytes: &mut [u8], label: &[u8], plan: ComputePlan)

@@ -24,7 +24,6 @@ use pass::render::begin_render_pass;
 use pass::render::pass_wrong_kind;
 use records::command::Command;
 use records::command::Record;
-use records::limits::MAX_COMMANDS;
 use records::outcome::Outcome;
 use records::pass::RenderPassDescriptor;
 use records::pipeline::PrivateCapabilities;
@@ -52,7 +51,7 @@ pub struct RenderPlan {
     pub size: usize,
 }
 
-fn render_command(batch: RenderBegun, i: usize) -> Command
+pub fn render_command(batch: RenderBegun, i: usize) -> Command
     requires { ⌜ RenderAllowed batch i ⌝ }
     ensures { λ r. ⌜ r ≡ renderAt batch i ⌝ }
 {
@@ -109,24 +108,6 @@ pub fn commit_render(list: &mut [Record], plan: RenderPlan) -> Answer
     let n = render_count(batch);
     fill_render(list, at, n, batch);
     render_answer(plan)
-}
-
-// The same into a list by value.
-pub fn keep_render(list: [Record; MAX_COMMANDS], plan: RenderPlan) -> [Record; MAX_COMMANDS]
-    requires { ⌜ (plan .batch .at + plan .batch .n ≤ 4096) × ((i : ℕ) → i < plan .batch .n → RenderAllowed (plan .batch) i) ⌝ }
-    ensures { λ r. ⌜ r ≡ filled (λ i. recordOf (renderAt (plan .batch) i)) list (plan .batch .at) (plan .batch .n) ⌝ }
-{
-    let batch = plan.batch;
-    let at = batch.at;
-    let n = batch.n;
-    let mut next = list;
-    let mut i: usize = 0;
-    while i < n {
-        let c = render_command(batch, i);
-        next[at + i] = Record { command: c };
-        i += 1;
-    }
-    next
 }
 
 pub fn write_render_label(bytes: &mut [u8], label: &[u8], plan: RenderPlan)

@@ -28,7 +28,6 @@ use pass::end::end_compute_count;
 use pass::end::end_render_count;
 use records::command::Command;
 use records::command::Record;
-use records::limits::MAX_COMMANDS;
 use records::outcome::Outcome;
 use records::state::Answer;
 use records::state::FixedState;
@@ -75,7 +74,7 @@ fn ends_in(render: bool, phase: Phase) -> bool
     }
 }
 
-fn ended_command(batch: Ended, i: usize) -> Command
+pub fn ended_command(batch: Ended, i: usize) -> Command
     requires { ⌜ EndAllowed batch i ⌝ }
     ensures { λ r. ⌜ r ≡ endedAt batch i ⌝ }
 {
@@ -136,24 +135,6 @@ pub fn commit_ended(list: &mut [Record], plan: EndPlan) -> Answer
     let n = ended_count(batch);
     fill_ended(list, at, n, batch);
     end_answer(plan)
-}
-
-// The same into a list by value.
-pub fn keep_ended(list: [Record; MAX_COMMANDS], plan: EndPlan) -> [Record; MAX_COMMANDS]
-    requires { ⌜ (plan .batch .at + plan .batch .n ≤ 4096) × ((i : ℕ) → i < plan .batch .n → EndAllowed (plan .batch) i) ⌝ }
-    ensures { λ r. ⌜ r ≡ filled (λ i. recordOf (endedAt (plan .batch) i)) list (plan .batch .at) (plan .batch .n) ⌝ }
-{
-    let batch = plan.batch;
-    let at = batch.at;
-    let n = batch.n;
-    let mut next = list;
-    let mut i: usize = 0;
-    while i < n {
-        let c = ended_command(batch, i);
-        next[at + i] = Record { command: c };
-        i += 1;
-    }
-    next
 }
 
 // The end of a pass of this kind, which leaves these three parts.

@@ -10,7 +10,6 @@ use pipeline::render::RenderPlan;
 use pipeline::render::render_command_at;
 use records::command::Command;
 use records::command::Record;
-use records::limits::MAX_COMMANDS;
 use records::outcome::Outcome;
 use records::pipeline::PrivateCapabilities;
 use records::pipeline::RenderPipeline;
@@ -39,7 +38,7 @@ pub struct PipedPlan {
     pub outcome: Outcome,
 }
 
-fn piped_command(batch: Piped, i: usize) -> Command
+pub fn piped_command(batch: Piped, i: usize) -> Command
     requires { ⌜ PipedAllowed batch i ⌝ }
     ensures { λ r. ⌜ r ≡ commandAt batch i ⌝ }
 {
@@ -99,22 +98,4 @@ pub fn commit_piped(list: &mut [Record], plan: PipedPlan) -> Answer
     let n = piped_count(batch);
     fill_piped(list, at, n, batch);
     piped_answer(plan)
-}
-
-// The same into a list by value.
-pub fn keep_piped(list: [Record; MAX_COMMANDS], plan: PipedPlan) -> [Record; MAX_COMMANDS]
-    requires { ⌜ (plan .batch .at + plan .batch .n ≤ 4096) × ((i : ℕ) → i < plan .batch .n → PipedAllowed (plan .batch) i) ⌝ }
-    ensures { λ r. ⌜ r ≡ filled (λ i. recordOf (commandAt (plan .batch) i)) list (plan .batch .at) (plan .batch .n) ⌝ }
-{
-    let batch = plan.batch;
-    let at = batch.at;
-    let n = batch.n;
-    let mut next = list;
-    let mut i: usize = 0;
-    while i < n {
-        let c = piped_command(batch, i);
-        next[at + i] = Record { command: c };
-        i += 1;
-    }
-    next
 }

@@ -9,7 +9,6 @@ ghost use Rattle.pipeline_calls.specs.Programmed.{ProgrammedAllowed, pro
 use pipeline::inner::inner_command_at;
 use records::command::Command;
 use records::command::Record;
-use records::limits::MAX_COMMANDS;
 use records::outcome::Outcome;
 use records::state::Answer;
 use records::state::BindState;
@@ -31,7 +30,7 @@ pub struct ProgrammedPlan {
     pub outcome: Outcome,
 }
 
-fn programmed_command(batch: Programmed, i: usize) -> Command
+pub fn programmed_command(batch: Programmed, i: usize) -> Command
     requires { ⌜ ProgrammedAllowed batch i ⌝ }
     ensures { λ r. ⌜ r ≡ commandAt batch i ⌝ }
 {
@@ -86,22 +85,4 @@ pub fn commit_programmed(list: &mut [Record], plan: ProgrammedPlan) -> Answer
     let n = programmed_count(batch);
     fill_programmed(list, at, n, batch);
     programmed_answer(plan)
-}
-
-// The same into a list by value.
-pub fn keep_programmed(list: [Record; MAX_COMMANDS], plan: ProgrammedPlan) -> [Record; MAX_COMMANDS]
-    requires { ⌜ (plan .batch .at + plan .batch .n ≤ 4096) × ((i : ℕ) → i < plan .batch .n → ProgrammedAllowed (plan .batch) i) ⌝ }
-    ensures { λ r. ⌜ r ≡ filled (λ i. recordOf (commandAt (plan .batch) i)) list (plan .batch .at) (plan .batch .n) ⌝ }
-{
-    let batch = plan.batch;
-    let at = batch.at;
-    let n = batch.n;
-    let mut next = list;
-    let mut i: usize = 0;
-    while i < n {
-        let c = programmed_command(batch, i);
-        next[at + i] = Record { command: c };
-        i += 1;
-    }
-    next
 }

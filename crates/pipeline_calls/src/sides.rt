@@ -10,7 +10,6 @@ use names::gl::StencilState;
 use pipeline::stencil::stencil_func_at;
 use records::command::Command;
 use records::command::Record;
-use records::limits::MAX_COMMANDS;
 use records::outcome::Outcome;
 use records::state::Answer;
 use records::state::State;
@@ -28,7 +27,7 @@ pub struct SidesPlan {
     pub outcome: Outcome,
 }
 
-fn sides_command(batch: Sides, i: usize) -> Command
+pub fn sides_command(batch: Sides, i: usize) -> Command
     requires { ⌜ SidesAllowed batch i ⌝ }
     ensures { λ r. ⌜ r ≡ commandAt batch i ⌝ }
 {
@@ -83,22 +82,4 @@ pub fn commit_sides(list: &mut [Record], plan: SidesPlan) -> Answer
     let n = sides_count(batch);
     fill_sides(list, at, n, batch);
     sides_answer(plan)
-}
-
-// The same into a list by value.
-pub fn keep_sides(list: [Record; MAX_COMMANDS], plan: SidesPlan) -> [Record; MAX_COMMANDS]
-    requires { ⌜ (plan .batch .at + plan .batch .n ≤ 4096) × ((i : ℕ) → i < plan .batch .n → SidesAllowed (plan .batch) i) ⌝ }
-    ensures { λ r. ⌜ r ≡ filled (λ i. recordOf (commandAt (plan .batch) i)) list (plan .batch .at) (plan .batch .n) ⌝ }
-{
-    let batch = plan.batch;
-    let at = batch.at;
-    let n = batch.n;
-    let mut next = list;
-    let mut i: usize = 0;
-    while i < n {
-        let c = sides_command(batch, i);
-        next[at + i] = Record { command: c };
-        i += 1;
-    }
-    next
 }

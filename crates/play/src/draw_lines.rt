@@ -1,10 +1,10 @@
 // Draws, by their lines.
 use crate::played::Played;
 use crate::played::of_kept;
-use calls::draws_by_value::draw_by_value;
-use calls::draws_by_value::draw_indexed_by_value;
-use calls::draws_by_value::draw_indexed_indirect_by_value;
-use calls::draws_by_value::draw_indirect_by_value;
+use draw_calls::draws_by_value::draw_by_value;
+use draw_calls::draws_by_value::draw_indexed_by_value;
+use draw_calls::draws_by_value::draw_indexed_indirect_by_value;
+use draw_calls::draws_by_value::draw_indirect_by_value;
 use flat::cursor::Cursor;
 use flat::cursor::take_i32;
 use flat::cursor::take_u32;

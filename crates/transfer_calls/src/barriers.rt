@@ -16,7 +16,6 @@ use bindings::group::one_if;
 use records::check::within;
 use records::command::Command;
 use records::command::Record;
-use records::limits::MAX_COMMANDS;
 use records::outcome::Outcome;
 use records::state::Answer;
 use records::state::State;
@@ -110,7 +109,7 @@ fn barrier_place(run: &[u32], count: usize, i: usize) -> usize
     j
 }
 
-fn barrier_command(run: &[u32], batch: Barriers, i: usize) -> Command
+pub fn barrier_command(run: &[u32], batch: Barriers, i: usize) -> Command
     requires { ⌜ BarrierAllowed (now run) batch i ⌝ }
     ensures { λ r. ⌜ r ≡ barrierCommandAt (now (run .entry)) batch i ⌝ }
 {
@@ -166,26 +165,4 @@ pub fn commit_barriers(list: &mut [Record], run: &[u32], plan: BarrierPlan) -> A
     let n = barriers_count(batch);
     fill_barriers(list, run, at, n, batch);
     barriers_answer(plan)
-}
-
-// The same into a list by value.
-pub fn keep_barriers(
-    list: [Record; MAX_COMMANDS],
-    run: &[u32],
-    plan: BarrierPlan,
-) -> [Record; MAX_COMMANDS]
-    requires { ⌜ (plan .batch .at + plan .batch .n ≤ 4096) × ((i : ℕ) → i < plan .batch .n → BarrierAllowed (now run) (plan .batch) i) ⌝ }
-    ensures { λ r. ⌜ r ≡ filled (λ i. recordOf (barrierCommandAt (now (run .entry)) (plan .batch) i)) list (plan .batch .at) (plan .batch .n) ⌝ }
-{
-    let batch = plan.batch;
-    let at = batch.at;
-    let n = batch.n;
-    let mut next = list;
-    let mut i: usize = 0;
-    while i < n {
-        let c = barrier_command(run, batch, i);
-        next[at + i] = Record { command: c };
-        i += 1;
-    }
-    next
 }

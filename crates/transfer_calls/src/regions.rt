@@ -13,7 +13,6 @@ use records::args::Buffer;
 use records::command::BufferCopy;
 use records::command::Command;
 use records::command::Record;
-use records::limits::MAX_COMMANDS;
 use records::outcome::Outcome;
 use records::state::Answer;
 use records::state::State;
@@ -92,7 +91,7 @@ fn copy_of(src: Buffer, dst: Buffer, copy: BufferCopy) -> Command
     }
 }
 
-fn copy_command(run: &[u64], batch: Copies, i: usize) -> Command
+pub fn copy_command(run: &[u64], batch: Copies, i: usize) -> Command
     requires { ⌜ CopyAllowed (now run) batch i ⌝ }
     ensures { λ r. ⌜ r ≡ copyAt (now (run .entry)) batch i ⌝ }
 {
@@ -149,26 +148,4 @@ pub fn commit_copies(list: &mut [Record], run: &[u64], plan: CopyPlan) -> Answer
     let n = copies_count(batch);
     fill_copies(list, run, at, n, batch);
     copies_answer(plan)
-}
-
-// The same into a list by value.
-pub fn keep_copies(
-    list: [Record; MAX_COMMANDS],
-    run: &[u64],
-    plan: CopyPlan,
-) -> [Record; MAX_COMMANDS]
-    requires { ⌜ (plan .batch .at + plan .batch .n ≤ 4096) × ((i : ℕ) → i < plan .batch .n → CopyAllowed (now run) (plan .batch) i) ⌝ }
-    ensures { λ r. ⌜ r ≡ filled (λ i. recordOf (copyAt (now (run .entry)) (plan .batch) i)) list (plan .batch .at) (plan .batch .n) ⌝ }
-{
-    let batch = plan.batch;
-    let at = batch.at;
-    let n = batch.n;
-    let mut next = list;
-    let mut i: usize = 0;
-    while i < n {
-        let c = copy_command(run, batch, i);
-        next[at + i] = Record { command: c };
-        i += 1;
-    }
-    next
 }

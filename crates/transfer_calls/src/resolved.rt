@@ -11,7 +11,6 @@ use records::check::within;
 use records::command::Command;
 use records::command::RangeU32;
 use records::command::Record;
-use records::limits::MAX_COMMANDS;
 use records::outcome::Outcome;
 use records::state::Answer;
 use records::state::State;
@@ -72,7 +71,7 @@ pub fn copy_queries(queries: &mut [u32], set: &[u32], plan: ResolvedPlan)
     }
 }
 
-fn resolved_command(batch: Resolved, i: usize) -> Command
+pub fn resolved_command(batch: Resolved, i: usize) -> Command
     requires { ⌜ i < 1 ⌝ }
     ensures { λ r. ⌜ r ≡ resolvedAt batch i ⌝ }
 {
@@ -132,22 +131,4 @@ pub fn commit_resolved(list: &mut [Record], plan: ResolvedPlan) -> Answer
     let n = resolved_count(batch);
     fill_resolved(list, at, n, batch);
     resolved_answer(plan)
-}
-
-// The same into a list by value.
-pub fn keep_resolved(list: [Record; MAX_COMMANDS], plan: ResolvedPlan) -> [Record; MAX_COMMANDS]
-    requires { ⌜ (plan .batch .at + plan .batch .n ≤ 4096) × ((i : ℕ) → i < plan .batch .n → i < 1) ⌝ }
-    ensures { λ r. ⌜ r ≡ filled (λ i. recordOf (resolvedAt (plan .batch) i)) list (plan .batch .at) (plan .batch .n) ⌝ }
-{
-    let batch = plan.batch;
-    let at = batch.at;
-    let n = batch.n;
-    let mut next = list;
-    let mut i: usize = 0;
-    while i < n {
-        let c = resolved_command(batch, i);
-        next[at + i] = Record { command: c };
-        i += 1;
-    }
-    next
 }

@@ -16,7 +16,7 @@ use calls::judge::query_rooms;
 use calls::judge::spot_of;
 use calls::parts::with_progress;
 use calls::phase::in_open;
-use calls::queries::query_asks;
+use calls::phase::run_asks;
 use pass::marks::over_run;
 use records::args::Buffer;
 use records::command::Record;
@@ -55,7 +55,7 @@ pub fn plan_copy_query_results(
     let range = (end < start) | (count < (end as usize));
     let short = over_run(set, count);
     let size = query_count(set, count, start, end);
-    let c = query_asks(in_open(phase), range, short);
+    let c = run_asks(in_open(phase), range, short);
     let rooms = query_rooms(room, queries_room);
     let more = one_and(size);
     let v = judge(rooms, s, c, phase, more);

@@ -24,7 +24,7 @@ use calls::judge::list_rooms;
 use calls::judge::spot_of;
 use calls::parts::with_progress;
 use calls::phase::in_open;
-use calls::queries::query_asks;
+use calls::phase::run_asks;
 use records::args::Buffer;
 use records::command::Record;
 use records::outcome::Conditions;
@@ -117,7 +117,7 @@ pub fn plan_copy_buffer_to_buffer(
     let range = empty_region(regions, count);
     let n = region_count(regions, count);
     let short = over_run(regions.len(), count);
-    let c = query_asks(in_open(phase), range, short);
+    let c = run_asks(in_open(phase), range, short);
     let rooms = list_rooms(room);
     let more = commands_only(n);
     let v = judge(rooms, s, c, phase, more);

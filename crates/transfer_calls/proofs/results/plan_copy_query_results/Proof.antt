@@ -14,8 +14,8 @@ query-count-requires c κs = search needs
 in-open-requires : tie.Need-in-open-requires
 in-open-requires c κs = search needs
 
-query-asks-requires : tie.Need-query-asks-requires
-query-asks-requires c κs = search needs
+run-asks-requires : tie.Need-run-asks-requires
+run-asks-requires c κs = search needs
 
 query-rooms-requires : tie.Need-query-rooms-requires
 query-rooms-requires c κs = search needs
@@ -44,7 +44,7 @@ with-progress-requires c κs = search needs
 returns : tie.Need-returns
 returns c =
     let a = c .before .before .before .before .before .before .before .before .before .before .before .before .before .before .before .args in
-    let v = rw (c .before .before .before .before .before .before .before .before .query-rooms .ensures, c .before .before .before .before .before .before .before .one-and .ensures, c .before .before .before .before .before .before .before .before .before .before .before .query-count .ensures, c .before .before .before .before .before .before .before .before .before .query-asks .ensures, c .before .before .before .before .before .before .before .before .before .before .in-open .ensures, c .before .before .before .before .before .before .before .before .before .before .before .before .over-run .ensures) at (c .before .before .before .before .before .before .judge .ensures) in
+    let v = rw (c .before .before .before .before .before .before .before .before .query-rooms .ensures, c .before .before .before .before .before .before .before .one-and .ensures, c .before .before .before .before .before .before .before .before .before .before .before .query-count .ensures, c .before .before .before .before .before .before .before .before .before .run-asks .ensures, c .before .before .before .before .before .before .before .before .before .before .in-open .ensures, c .before .before .before .before .before .before .before .before .before .before .before .before .over-run .ensures) at (c .before .before .before .before .before .before .judge .ensures) in
     let place = rw (v .1) at (c .before .before .before .before .before .spot-of .ensures) in
     let puts = rw (v .1, c .before .before .before .before .before .before .before .before .before .before .before .query-count .ensures) at (c .before .before .before .before .spot-of2 .ensures) in
     let from = rw (v .1) at (c .before .before .before .spot-of3 .ensures .0) in
@@ -57,7 +57,7 @@ plan-copy-query-results-spec =
     over-run-requires
     query-count-requires
     in-open-requires
-    query-asks-requires
+    run-asks-requires
     query-rooms-requires
     one-and-requires
     judge-requires

@@ -26,8 +26,8 @@ over-run-requires c κs = search needs
 in-open-requires : tie.Need-in-open-requires
 in-open-requires c κs = search needs
 
-query-asks-requires : tie.Need-query-asks-requires
-query-asks-requires c κs = search needs
+run-asks-requires : tie.Need-run-asks-requires
+run-asks-requires c κs = search needs
 
 list-rooms-requires : tie.Need-list-rooms-requires
 list-rooms-requires c κs = search needs
@@ -54,7 +54,7 @@ returns c =
     let asks : Conditions =
     record { phase = not (inOpen (s .progress .phase)); many = false; range = some? emptyCopy (regionsOf l); absent = false; kind = false; sum = false; room = overRunBy 3 l } in
     let k = found (a .room) s asks (s .progress .phase) cs _ _ _ _ (c .before .before .before .before .before .list-rooms .ensures) (c .before .before .before .before .before .before .before .before .before .region-count .ensures ∙ sym (length-map (regionsOf l) (copyCommand (a .src) (a .dst)))) (c .before .before .before .before .commands-only .ensures)
-    (rw (c .before .before .before .before .before .before .query-asks .ensures, c .before .before .before .before .before .before .before .in-open .ensures, c .before .before .before .before .before .before .before .before .over-run .ensures, c .before .before .before .before .before .before .before .before .before .before .empty-region .ensures) at (c .before .before .before .judge .ensures)) (c .before .before .spot-of .ensures) in (
+    (rw (c .before .before .before .before .before .before .run-asks .ensures, c .before .before .before .before .before .before .before .in-open .ensures, c .before .before .before .before .before .before .before .before .over-run .ensures, c .before .before .before .before .before .before .before .before .before .before .empty-region .ensures) at (c .before .before .before .judge .ensures)) (c .before .before .spot-of .ensures) in (
       (k .said, same (a .room) s asks (s .progress .phase) cs k _ (c .with-progress .ensures)),
       laid (a .room) s asks (s .progress .phase) cs _ _ _ (k .here) (k .many) (λ h i l. refl),
       λ i h. some-written (a .room) s asks (s .progress .phase) cs k i h .1,
@@ -68,7 +68,7 @@ plan-copy-buffer-to-buffer-spec =
     region-count-requires
     over-run-requires
     in-open-requires
-    query-asks-requires
+    run-asks-requires
     list-rooms-requires
     commands-only-requires
     judge-requires

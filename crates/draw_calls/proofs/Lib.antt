@@ -1,0 +1,5 @@
+pub mod Owns
+pub mod DrawPlans
+pub mod Stepped
+pub mod Index
+pub mod Swapped

@@ -1,0 +1,4 @@
+// The draws.
+mod drawing;
+pub mod drawn;
+pub mod draws;

@@ -1,0 +1,3 @@
+pub mod Ones
+pub mod Whole
+pub mod Pairs

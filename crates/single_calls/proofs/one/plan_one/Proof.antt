@@ -1,0 +1,43 @@
+-- `single_calls::one::plan_one` meets its contract. Assumes nothing.
+use Rattle.pipeline.specs.Fixed.{only}
+use Rattle.calls.proofs.Plans.{laid, found, same, only-at}
+use borrow.Author.Needs.{needs}
+use Rattle.single_calls.proofs.one.plan_one.Statement.{statement}
+use Rattle.single_calls.proofs.one.plan_one.Tie as tie
+
+count-of-requires : tie.Need-count-of-requires
+count-of-requires c κs = search needs
+
+list-rooms-requires : tie.Need-list-rooms-requires
+list-rooms-requires c κs = search needs
+
+commands-only-requires : tie.Need-commands-only-requires
+commands-only-requires c κs = search needs
+
+judge-requires : tie.Need-judge-requires
+judge-requires c κs = search needs
+
+spot-of-requires : tie.Need-spot-of-requires
+spot-of-requires c κs = search needs
+
+with-progress-requires : tie.Need-with-progress-requires
+with-progress-requires c κs = search needs
+
+returns : tie.Need-returns
+returns c =
+    let s = c .before .before .before .before .before .before .before .before .args .s in
+    let cs = only (c .before .before .before .before .before .before .before .before .args .some) (c .before .before .before .before .before .before .before .before .args .command) in
+    let k = found (c .before .before .before .before .before .before .before .before .args .room) s (c .before .before .before .before .before .before .before .before .args .c) (s .progress .phase) cs _ _ _ _ (c .before .before .before .before .before .list-rooms .ensures) (c .before .before .before .before .before .before .count-of .ensures (c .before .before .before .before .before .before .before .before .args .command)) (c .before .before .before .before .commands-only .ensures) (c .before .before .before .judge .ensures) (c .before .before .spot-of .ensures) in
+    ((k .said, same (c .before .before .before .before .before .before .before .before .args .room) s (c .before .before .before .before .before .before .before .before .args .c) (s .progress .phase) cs k _ (c .with-progress .ensures)), laid (c .before .before .before .before .before .before .before .before .args .room) s (c .before .before .before .before .before .before .before .before .args .c) (s .progress .phase) cs _ _ _ (k .here) (k .many) (λ h i l. only-at (c .before .before .before .before .before .before .before .before .args .some) (c .before .before .before .before .before .before .before .before .args .command) i l))
+
+pub plan-one-spec : {M : Type 1} → statement M
+plan-one-spec =
+    tie.close
+    (tie.spec
+    count-of-requires
+    list-rooms-requires
+    commands-only-requires
+    judge-requires
+    spot-of-requires
+    with-progress-requires
+    returns)

@@ -1,0 +1,35 @@
+-- `single_calls::queries::plan_write_timestamp` meets its contract. Assumes nothing.
+use Rattle.calls.specs.Step.{outcomeOf}
+use borrow.Author.Needs.{needs}
+use Rattle.single_calls.proofs.queries.plan_write_timestamp.Statement.{statement}
+use Rattle.single_calls.proofs.queries.plan_write_timestamp.Tie as tie
+
+over-run-requires : tie.Need-over-run-requires
+over-run-requires c κs = search needs
+
+not-closed-requires : tie.Need-not-closed-requires
+not-closed-requires c κs = search needs
+
+run-asks-requires : tie.Need-run-asks-requires
+run-asks-requires c κs = search needs
+
+query-of-requires : tie.Need-query-of-requires
+query-of-requires c κs = search needs
+
+plan-one-requires : tie.Need-plan-one-requires
+plan-one-requires c κs = search needs
+
+returns : tie.Need-returns
+unfolding outcomeOf
+returns c = rw (c .before .query-of .ensures, c .before .before .run-asks .ensures, c .before .before .before .not-closed .ensures, c .before .before .before .before .over-run .ensures) at (c .plan-one .ensures)
+
+pub plan-write-timestamp-spec : {M : Type 1} → statement M
+plan-write-timestamp-spec =
+    tie.close
+    (tie.spec
+    over-run-requires
+    not-closed-requires
+    run-asks-requires
+    query-of-requires
+    plan-one-requires
+    returns)
