@@ -1,22 +1,27 @@
 // Draws, by their lines.
+use crate::listing::put_drawn;
 use crate::played::Played;
-use crate::played::of_kept;
-use draw_calls::draws_by_value::draw_by_value;
-use draw_calls::draws_by_value::draw_indexed_by_value;
-use draw_calls::draws_by_value::draw_indexed_indirect_by_value;
-use draw_calls::draws_by_value::draw_indirect_by_value;
+use crate::played::closed;
+use crate::print::Output;
+use draw_calls::drawn::draw_answer;
+use draw_calls::draws::plan_draw;
+use draw_calls::draws::plan_draw_indexed;
+use draw_calls::draws::plan_draw_indexed_indirect;
+use draw_calls::draws::plan_draw_indirect;
 use flat::cursor::Cursor;
+use flat::cursor::is_right;
 use flat::cursor::take_i32;
 use flat::cursor::take_u32;
 use flat::small::take_buffer;
 use flat::small::take_u64;
-use records::command::Record;
+use records::check::within;
 use records::limits::MAX_COMMANDS;
 use records::pipeline::PrivateCapabilities;
 use records::state::State;
 
 pub fn play_draw(
-    list: [Record; MAX_COMMANDS],
+    out: &mut [u8],
+    output: Output,
     room: usize,
     line: &[u8],
     c: Cursor,
@@ -31,10 +36,11 @@ pub fn play_draw(
     let after_first_instance = first_instance.next;
     let instance_count = take_u32(line, after_first_instance);
     let after_instance_count = instance_count.next;
-    let next = after_instance_count;
-    let kept = draw_by_value(
-        list,
-        room,
+    let past = after_instance_count;
+    let next = closed(line, past);
+    let part = within(room, MAX_COMMANDS);
+    let plan = plan_draw(
+        part,
         caps,
         s,
         first_vertex.value,
@@ -42,11 +48,19 @@ pub fn play_draw(
         first_instance.value,
         instance_count.value,
     );
-    of_kept(kept, next)
+    let answer = draw_answer(plan);
+    let batch = plan.batch;
+    let printed = put_drawn(out, output, batch, is_right(next));
+    Played {
+        answer,
+        next,
+        output: printed,
+    }
 }
 
 pub fn play_draw_indexed(
-    list: [Record; MAX_COMMANDS],
+    out: &mut [u8],
+    output: Output,
     room: usize,
     line: &[u8],
     c: Cursor,
@@ -63,10 +77,11 @@ pub fn play_draw_indexed(
     let after_first_instance = first_instance.next;
     let instance_count = take_u32(line, after_first_instance);
     let after_instance_count = instance_count.next;
-    let next = after_instance_count;
-    let kept = draw_indexed_by_value(
-        list,
-        room,
+    let past = after_instance_count;
+    let next = closed(line, past);
+    let part = within(room, MAX_COMMANDS);
+    let plan = plan_draw_indexed(
+        part,
         caps,
         s,
         first_index.value,
@@ -75,11 +90,19 @@ pub fn play_draw_indexed(
         first_instance.value,
         instance_count.value,
     );
-    of_kept(kept, next)
+    let answer = draw_answer(plan);
+    let batch = plan.batch;
+    let printed = put_drawn(out, output, batch, is_right(next));
+    Played {
+        answer,
+        next,
+        output: printed,
+    }
 }
 
 pub fn play_draw_indirect(
-    list: [Record; MAX_COMMANDS],
+    out: &mut [u8],
+    output: Output,
     room: usize,
     line: &[u8],
     c: Cursor,
@@ -93,21 +116,23 @@ pub fn play_draw_indirect(
     let after_offset = offset.next;
     let draw_count = take_u32(line, after_offset);
     let after_draw_count = draw_count.next;
-    let next = after_draw_count;
-    let kept = draw_indirect_by_value(
-        list,
-        room,
-        caps,
-        s,
-        value.raw,
-        offset.value,
-        draw_count.value,
-    );
-    of_kept(kept, next)
+    let past = after_draw_count;
+    let next = closed(line, past);
+    let part = within(room, MAX_COMMANDS);
+    let plan = plan_draw_indirect(part, caps, s, value.raw, offset.value, draw_count.value);
+    let answer = draw_answer(plan);
+    let batch = plan.batch;
+    let printed = put_drawn(out, output, batch, is_right(next));
+    Played {
+        answer,
+        next,
+        output: printed,
+    }
 }
 
 pub fn play_draw_indexed_indirect(
-    list: [Record; MAX_COMMANDS],
+    out: &mut [u8],
+    output: Output,
     room: usize,
     line: &[u8],
     c: Cursor,
@@ -121,15 +146,16 @@ pub fn play_draw_indexed_indirect(
     let after_offset = offset.next;
     let draw_count = take_u32(line, after_offset);
     let after_draw_count = draw_count.next;
-    let next = after_draw_count;
-    let kept = draw_indexed_indirect_by_value(
-        list,
-        room,
-        caps,
-        s,
-        value.raw,
-        offset.value,
-        draw_count.value,
-    );
-    of_kept(kept, next)
+    let past = after_draw_count;
+    let next = closed(line, past);
+    let part = within(room, MAX_COMMANDS);
+    let plan = plan_draw_indexed_indirect(part, caps, s, value.raw, offset.value, draw_count.value);
+    let answer = draw_answer(plan);
+    let batch = plan.batch;
+    let printed = put_drawn(out, output, batch, is_right(next));
+    Played {
+        answer,
+        next,
+        output: printed,
+    }
 }

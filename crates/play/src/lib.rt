@@ -1,8 +1,9 @@
-// Sessions in the flat form, played line by line over a list by value, and printed.
+// Sessions in the flat form, played line by line and printed.
 mod binding_lines;
 mod dispatch_lines;
 mod draw_lines;
 pub mod line;
+mod listing;
 mod pass_lines;
 mod pipeline_lines;
 pub mod played;

@@ -18,6 +18,7 @@ use crate::pass_lines::play_set_vertex_buffer;
 use crate::pipeline_lines::play_set_compute_pipeline;
 use crate::pipeline_lines::play_set_render_pipeline;
 use crate::played::Played;
+use crate::print::Output;
 use crate::query_lines::play_begin_query;
 use crate::query_lines::play_copy_query_results;
 use crate::query_lines::play_end_query;
@@ -32,12 +33,8 @@ use crate::transfer_lines::play_copy_buffer_to_buffer;
 use crate::transfer_lines::play_transition_buffers;
 use crate::transfer_lines::play_transition_textures;
 use flat::cursor::Cursor;
-use flat::cursor::Wanted;
-use flat::cursor::is_right;
 use flat::cursor::start;
 use flat::cursor::take;
-use records::command::Record;
-use records::limits::MAX_COMMANDS;
 use records::pipeline::PrivateCapabilities;
 use records::state::State;
 
@@ -50,11 +47,10 @@ pub const LAST_CODE: u64 = 30;
 
 // Codes 0 to 5.
 fn play_pass(
-    list: [Record; MAX_COMMANDS],
+    out: &mut [u8],
+    output: Output,
     room: usize,
     bytes: &mut [u8],
-    label: &mut [u8],
-    numbers: &mut [u32],
     line: &[u8],
     c: Cursor,
     code: u64,
@@ -62,30 +58,29 @@ fn play_pass(
     s: State,
 ) -> Played {
     if code == BEGIN_ENCODING {
-        return play_begin_encoding(list, c, caps, s);
+        return play_begin_encoding(output, line, c, caps, s);
     }
     if code == END_ENCODING {
-        return play_end_encoding(list, c, caps, s);
+        return play_end_encoding(output, line, c, caps, s);
     }
     if code == 2 {
-        return play_begin_render_pass(list, room, bytes, label, numbers, line, c, caps, s);
+        return play_begin_render_pass(out, output, room, bytes, line, c, caps, s);
     }
     if code == 3 {
-        return play_end_render_pass(list, room, c, caps, s);
+        return play_end_render_pass(out, output, room, line, c, caps, s);
     }
     if code == 4 {
-        return play_begin_compute_pass(list, room, bytes, label, numbers, line, c, caps, s);
+        return play_begin_compute_pass(out, output, room, bytes, line, c, caps, s);
     }
-    play_end_compute_pass(list, room, c, caps, s)
+    play_end_compute_pass(out, output, room, line, c, caps, s)
 }
 
 // Codes 6 to 10.
 fn play_transfer(
-    list: [Record; MAX_COMMANDS],
+    out: &mut [u8],
+    output: Output,
     room: usize,
     queries: &mut [u32],
-    numbers: &mut [u32],
-    regions: &mut [u64],
     line: &[u8],
     c: Cursor,
     code: u64,
@@ -93,25 +88,25 @@ fn play_transfer(
     s: State,
 ) -> Played {
     if code == 6 {
-        return play_transition_buffers(list, room, numbers, line, c, caps, s);
+        return play_transition_buffers(out, output, room, line, c, caps, s);
     }
     if code == 7 {
-        return play_transition_textures(list, room, numbers, line, c, caps, s);
+        return play_transition_textures(out, output, room, line, c, caps, s);
     }
     if code == 8 {
-        return play_clear_buffer(list, room, line, c, caps, s);
+        return play_clear_buffer(out, output, room, line, c, caps, s);
     }
     if code == 9 {
-        return play_copy_buffer_to_buffer(list, room, regions, line, c, caps, s);
+        return play_copy_buffer_to_buffer(out, output, room, line, c, caps, s);
     }
-    play_copy_query_results(list, room, queries, numbers, line, c, caps, s)
+    play_copy_query_results(out, output, room, queries, line, c, caps, s)
 }
 
 // Codes 11 to 14.
 fn play_query(
-    list: [Record; MAX_COMMANDS],
+    out: &mut [u8],
+    output: Output,
     room: usize,
-    numbers: &mut [u32],
     line: &[u8],
     c: Cursor,
     code: u64,
@@ -119,23 +114,23 @@ fn play_query(
     s: State,
 ) -> Played {
     if code == 11 {
-        return play_begin_query(list, room, numbers, line, c, caps, s);
+        return play_begin_query(out, output, room, line, c, caps, s);
     }
     if code == 12 {
-        return play_end_query(list, room, numbers, line, c, caps, s);
+        return play_end_query(out, output, room, line, c, caps, s);
     }
     if code == 13 {
-        return play_write_timestamp(list, room, numbers, line, c, caps, s);
+        return play_write_timestamp(out, output, room, line, c, caps, s);
     }
-    play_reset_queries(list, numbers, line, c, caps, s)
+    play_reset_queries(output, line, c, caps, s)
 }
 
 // Codes 15 to 18.
 fn play_binding(
-    list: [Record; MAX_COMMANDS],
+    out: &mut [u8],
+    output: Output,
     room: usize,
     bytes: &mut [u8],
-    numbers: &mut [u32],
     line: &[u8],
     c: Cursor,
     code: u64,
@@ -143,20 +138,21 @@ fn play_binding(
     s: State,
 ) -> Played {
     if code == 15 {
-        return play_set_bind_group(list, room, numbers, line, c, caps, s);
+        return play_set_bind_group(out, output, room, line, c, caps, s);
     }
     if code == 16 {
-        return play_set_immediates(list, room, bytes, numbers, line, c, caps, s);
+        return play_set_immediates(out, output, room, bytes, line, c, caps, s);
     }
     if code == 17 {
-        return play_set_render_pipeline(list, room, line, c, caps, s);
+        return play_set_render_pipeline(out, output, room, line, c, caps, s);
     }
-    play_set_compute_pipeline(list, room, line, c, caps, s)
+    play_set_compute_pipeline(out, output, room, line, c, caps, s)
 }
 
 // Codes 19 to 24.
 fn play_setting(
-    list: [Record; MAX_COMMANDS],
+    out: &mut [u8],
+    output: Output,
     room: usize,
     line: &[u8],
     c: Cursor,
@@ -165,26 +161,27 @@ fn play_setting(
     s: State,
 ) -> Played {
     if code == 19 {
-        return play_set_index_buffer(list, room, line, c, caps, s);
+        return play_set_index_buffer(out, output, room, line, c, caps, s);
     }
     if code == 20 {
-        return play_set_vertex_buffer(list, line, c, caps, s);
+        return play_set_vertex_buffer(output, line, c, caps, s);
     }
     if code == 21 {
-        return play_set_viewport(list, room, line, c, caps, s);
+        return play_set_viewport(out, output, room, line, c, caps, s);
     }
     if code == 22 {
-        return play_set_scissor_rect(list, room, line, c, caps, s);
+        return play_set_scissor_rect(out, output, room, line, c, caps, s);
     }
     if code == 23 {
-        return play_set_stencil_reference(list, room, line, c, caps, s);
+        return play_set_stencil_reference(out, output, room, line, c, caps, s);
     }
-    play_set_blend_constants(list, room, line, c, caps, s)
+    play_set_blend_constants(out, output, room, line, c, caps, s)
 }
 
 // Codes 25 to 30.
 fn play_shot(
-    list: [Record; MAX_COMMANDS],
+    out: &mut [u8],
+    output: Output,
     room: usize,
     line: &[u8],
     c: Cursor,
@@ -193,48 +190,32 @@ fn play_shot(
     s: State,
 ) -> Played {
     if code == 25 {
-        return play_draw(list, room, line, c, caps, s);
+        return play_draw(out, output, room, line, c, caps, s);
     }
     if code == 26 {
-        return play_draw_indexed(list, room, line, c, caps, s);
+        return play_draw_indexed(out, output, room, line, c, caps, s);
     }
     if code == 27 {
-        return play_draw_indirect(list, room, line, c, caps, s);
+        return play_draw_indirect(out, output, room, line, c, caps, s);
     }
     if code == 28 {
-        return play_draw_indexed_indirect(list, room, line, c, caps, s);
+        return play_draw_indexed_indirect(out, output, room, line, c, caps, s);
     }
     if code == 29 {
-        return play_dispatch_workgroups(list, room, line, c, caps, s);
+        return play_dispatch_workgroups(out, output, room, line, c, caps, s);
     }
-    play_dispatch_workgroups_indirect(list, room, line, c, caps, s)
+    play_dispatch_workgroups_indirect(out, output, room, line, c, caps, s)
 }
 
-// The cursor at the end of the line, or the end is what was expected.
-pub fn closed(line: &[u8], c: Cursor) -> Cursor {
-    if !is_right(c) {
-        return c;
-    }
-    if c.at < line.len() {
-        return Cursor {
-            at: c.at,
-            wanted: Wanted::End,
-        };
-    }
-    c
-}
-
-// The call of a line, where the line is right; the list and the runs that it is handed may be used
-// again as they were where it is not. The line's first number, the answer that is expected, is not
-// looked at.
+// The call of a line: what it records is printed, where the line is right. Where the line is wrong
+// nothing is printed, and the state and the runs are to be used as they were. The line's first
+// number, the answer that is expected, is not looked at.
 pub fn play(
-    list: [Record; MAX_COMMANDS],
+    out: &mut [u8],
+    output: Output,
     room: usize,
     bytes: &mut [u8],
     queries: &mut [u32],
-    label: &mut [u8],
-    numbers: &mut [u32],
-    regions: &mut [u64],
     line: &[u8],
     caps: PrivateCapabilities,
     s: State,
@@ -245,30 +226,19 @@ pub fn play(
     let c = t.next;
     let code = t.value;
     if code < 6 {
-        return play_pass(list, room, bytes, label, numbers, line, c, code, caps, s);
+        return play_pass(out, output, room, bytes, line, c, code, caps, s);
     }
     if code < 11 {
-        return play_transfer(
-            list,
-            room,
-            queries,
-            numbers,
-            regions,
-            line,
-            c,
-            code,
-            caps,
-            s,
-        );
+        return play_transfer(out, output, room, queries, line, c, code, caps, s);
     }
     if code < 15 {
-        return play_query(list, room, numbers, line, c, code, caps, s);
+        return play_query(out, output, room, line, c, code, caps, s);
     }
     if code < 19 {
-        return play_binding(list, room, bytes, numbers, line, c, code, caps, s);
+        return play_binding(out, output, room, bytes, line, c, code, caps, s);
     }
     if code < 25 {
-        return play_setting(list, room, line, c, code, caps, s);
+        return play_setting(out, output, room, line, c, code, caps, s);
     }
-    play_shot(list, room, line, c, code, caps, s)
+    play_shot(out, output, room, line, c, code, caps, s)
 }

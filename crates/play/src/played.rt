@@ -1,25 +1,35 @@
-// What playing a line gives: the list, the call's answer, and the cursor past its arguments.
-use calls::kept::Kept;
+// What playing a line gives: the call's answer, the cursor past the line or what is wrong with it,
+// and the output after it.
+use crate::print::Output;
 use flat::cursor::Cursor;
-use records::command::Record;
-use records::limits::MAX_COMMANDS;
-use records::outcome::Outcome;
+use flat::cursor::Wanted;
+use flat::cursor::is_right;
 use records::state::Answer;
-use records::state::State;
+
+// How many numbers a line's list may have: characters of a label, queries or barriers' words, and
+// words of regions.
+pub const MAX_LABEL: usize = 65537;
+
+pub const MAX_NUMBERS: usize = 65536;
+
+pub const MAX_REGIONS: usize = 12291;
 
 pub struct Played {
-    pub list: [Record; MAX_COMMANDS],
     pub answer: Answer,
     pub next: Cursor,
+    pub output: Output,
 }
 
-pub fn of_kept(kept: Kept, next: Cursor) -> Played {
-    let list = kept.list;
-    let answer = kept.answer;
-    Played { list, answer, next }
-}
-
-// A call that is handed no run.
-pub fn answered(list: [Record; MAX_COMMANDS], answer: Answer, next: Cursor) -> Played {
-    Played { list, answer, next }
+// The cursor at the end of the line, or the end is what was expected.
+pub fn closed(line: &[u8], c: Cursor) -> Cursor {
+    if !is_right(c) {
+        return c;
+    }
+    if c.at < line.len() {
+        return Cursor {
+            at: c.at,
+            wanted: Wanted::End,
+        };
+    }
+    c
 }

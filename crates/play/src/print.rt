@@ -5,8 +5,6 @@ use flat::cursor::Wanted;
 use libc::STDOUT_FILENO;
 use records::check::within;
 use records::command::Command;
-use records::command::Record;
-use records::limits::MAX_COMMANDS;
 use records::state::State;
 use state_text::write_state;
 use text::Wrote;
@@ -70,13 +68,36 @@ fn has_room(wrote: Wrote) -> bool {
     }
 }
 
-pub fn put_command(out: &mut [u8], used: usize, number: u64, command: Command) -> usize {
+fn put_numbered(out: &mut [u8], used: usize, number: u64, command: Command) -> usize {
     let wrote = write_command(out, used, number, command);
     if has_room(wrote) {
         return next_or(wrote, 0);
     }
     flush(out, used);
     next_or(write_command(out, 0, number, command), 0)
+}
+
+// How much of the buffer is used, and whether the line between two lists is due.
+pub struct Output {
+    pub used: usize,
+    pub divide: bool,
+}
+
+pub fn put_divider(out: &mut [u8], output: Output) -> usize {
+    if output.divide {
+        return put(out, output.used, b"---\n");
+    }
+    output.used
+}
+
+// A command with its place in the list.
+pub fn put_command(out: &mut [u8], output: Output, number: u64, command: Command) -> Output {
+    let divided = put_divider(out, output);
+    let used = put_numbered(out, divided, number, command);
+    Output {
+        used,
+        divide: false,
+    }
 }
 
 pub fn put_state(out: &mut [u8], used: usize, s: State) -> usize {
@@ -86,25 +107,6 @@ pub fn put_state(out: &mut [u8], used: usize, s: State) -> usize {
     }
     flush(out, used);
     next_or(write_state(out, 0, s), 0)
-}
-
-// The commands of a list, numbered from 0.
-pub fn put_commands(
-    out: &mut [u8],
-    used: usize,
-    list: [Record; MAX_COMMANDS],
-    count: usize,
-) -> usize {
-    let n = within(count, MAX_COMMANDS);
-    let mut at = used;
-    let mut i: usize = 0;
-    while i < n {
-        let r = list[i];
-        let c = r.command;
-        at = put_command(out, at, i as u64, c);
-        i += 1;
-    }
-    at
 }
 
 fn hex_digit(n: u8) -> u8 {

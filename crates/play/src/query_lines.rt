@@ -1,116 +1,127 @@
 // Queries, by their lines.
+use crate::listing::put_one;
+use crate::listing::put_resolved;
+use crate::played::MAX_NUMBERS;
 use crate::played::Played;
-use crate::played::answered;
-use crate::played::of_kept;
-use calls::queries::reset_queries;
-use calls::queries_by_value::begin_query_by_value;
-use calls::queries_by_value::end_query_by_value;
-use calls::queries_by_value::write_timestamp_by_value;
+use crate::played::closed;
+use crate::print::Output;
 use flat::cursor::Cursor;
+use flat::cursor::is_right;
 use flat::cursor::take_u32;
 use flat::runs::take_set;
 use flat::small::take_buffer;
 use flat::small::take_u64;
-use records::command::Record;
+use records::check::within;
 use records::limits::MAX_COMMANDS;
 use records::pipeline::PrivateCapabilities;
 use records::state::State;
-use transfer_calls::by_value::copy_query_results_by_value;
+use single_calls::one::one_answer;
+use single_calls::queries::plan_begin_query;
+use single_calls::queries::plan_end_query;
+use single_calls::queries::plan_write_timestamp;
+use single_calls::queries::reset_queries;
+use transfer_calls::resolved::copy_queries;
+use transfer_calls::resolved::resolved_answer;
+use transfer_calls::results::plan_copy_query_results;
 
 pub fn play_begin_query(
-    list: [Record; MAX_COMMANDS],
+    out: &mut [u8],
+    output: Output,
     room: usize,
-    numbers: &mut [u32],
     line: &[u8],
     c: Cursor,
     caps: PrivateCapabilities,
     s: State,
 ) -> Played {
-    let set = take_set(line, c, numbers);
+    let mut numbers = [0u32; MAX_NUMBERS];
+    let set = take_set(line, c, &mut numbers);
     let after_set = set.next;
     let index = take_u32(line, after_set);
-    let next = index.next;
-    let kept = begin_query_by_value(
-        list,
-        room,
-        numbers,
-        set.count,
-        set.target,
-        caps,
-        s,
-        index.value,
-    );
-    of_kept(kept, next)
+    let past = index.next;
+    let next = closed(line, past);
+    let part = within(room, MAX_COMMANDS);
+    let plan = plan_begin_query(&numbers, part, set.count, set.target, caps, s, index.value);
+    let answer = one_answer(plan);
+    let batch = plan.batch;
+    let printed = put_one(out, output, batch, is_right(next));
+    Played {
+        answer,
+        next,
+        output: printed,
+    }
 }
 
 pub fn play_end_query(
-    list: [Record; MAX_COMMANDS],
+    out: &mut [u8],
+    output: Output,
     room: usize,
-    numbers: &mut [u32],
     line: &[u8],
     c: Cursor,
     caps: PrivateCapabilities,
     s: State,
 ) -> Played {
-    let set = take_set(line, c, numbers);
+    let mut numbers = [0u32; MAX_NUMBERS];
+    let set = take_set(line, c, &mut numbers);
     let after_set = set.next;
     let index = take_u32(line, after_set);
-    let next = index.next;
-    let kept = end_query_by_value(
-        list,
-        room,
-        numbers,
-        set.count,
-        set.target,
-        caps,
-        s,
-        index.value,
-    );
-    of_kept(kept, next)
+    let past = index.next;
+    let next = closed(line, past);
+    let part = within(room, MAX_COMMANDS);
+    let plan = plan_end_query(&numbers, part, set.count, set.target, caps, s, index.value);
+    let answer = one_answer(plan);
+    let batch = plan.batch;
+    let printed = put_one(out, output, batch, is_right(next));
+    Played {
+        answer,
+        next,
+        output: printed,
+    }
 }
 
 pub fn play_write_timestamp(
-    list: [Record; MAX_COMMANDS],
+    out: &mut [u8],
+    output: Output,
     room: usize,
-    numbers: &mut [u32],
     line: &[u8],
     c: Cursor,
     caps: PrivateCapabilities,
     s: State,
 ) -> Played {
-    let set = take_set(line, c, numbers);
+    let mut numbers = [0u32; MAX_NUMBERS];
+    let set = take_set(line, c, &mut numbers);
     let after_set = set.next;
     let index = take_u32(line, after_set);
-    let next = index.next;
-    let kept = write_timestamp_by_value(
-        list,
-        room,
-        numbers,
-        set.count,
-        set.target,
-        caps,
-        s,
-        index.value,
-    );
-    of_kept(kept, next)
+    let past = index.next;
+    let next = closed(line, past);
+    let part = within(room, MAX_COMMANDS);
+    let plan = plan_write_timestamp(&numbers, part, set.count, set.target, caps, s, index.value);
+    let answer = one_answer(plan);
+    let batch = plan.batch;
+    let printed = put_one(out, output, batch, is_right(next));
+    Played {
+        answer,
+        next,
+        output: printed,
+    }
 }
 
 pub fn play_reset_queries(
-    list: [Record; MAX_COMMANDS],
-    numbers: &mut [u32],
+    output: Output,
     line: &[u8],
     c: Cursor,
     caps: PrivateCapabilities,
     s: State,
 ) -> Played {
-    let set = take_set(line, c, numbers);
+    let mut numbers = [0u32; MAX_NUMBERS];
+    let set = take_set(line, c, &mut numbers);
     let after_set = set.next;
     let start = take_u32(line, after_set);
     let after_start = start.next;
     let end = take_u32(line, after_start);
-    let next = end.next;
+    let past = end.next;
+    let next = closed(line, past);
     let answer = reset_queries(
-        numbers,
+        &numbers,
         set.count,
         set.target,
         caps,
@@ -118,20 +129,25 @@ pub fn play_reset_queries(
         start.value,
         end.value,
     );
-    answered(list, answer, next)
+    Played {
+        answer,
+        next,
+        output,
+    }
 }
 
 pub fn play_copy_query_results(
-    list: [Record; MAX_COMMANDS],
+    out: &mut [u8],
+    output: Output,
     room: usize,
     queries: &mut [u32],
-    numbers: &mut [u32],
     line: &[u8],
     c: Cursor,
     caps: PrivateCapabilities,
     s: State,
 ) -> Played {
-    let set = take_set(line, c, numbers);
+    let mut numbers = [0u32; MAX_NUMBERS];
+    let set = take_set(line, c, &mut numbers);
     let after_set = set.next;
     let start = take_u32(line, after_set);
     let after_start = start.next;
@@ -144,12 +160,13 @@ pub fn play_copy_query_results(
     let stride = take_u64(line, after_offset);
     let after_stride = stride.next;
     let dst = buffer.value;
-    let next = after_stride;
-    let kept = copy_query_results_by_value(
-        list,
-        room,
-        queries,
-        numbers,
+    let past = after_stride;
+    let next = closed(line, past);
+    let part = within(room, MAX_COMMANDS);
+    let plan = plan_copy_query_results(
+        &numbers,
+        part,
+        queries.len(),
         set.count,
         set.target,
         caps,
@@ -159,5 +176,13 @@ pub fn play_copy_query_results(
         dst,
         offset.value,
     );
-    of_kept(kept, next)
+    copy_queries(queries, &numbers, plan);
+    let answer = resolved_answer(plan);
+    let batch = plan.batch;
+    let printed = put_resolved(out, output, batch, is_right(next));
+    Played {
+        answer,
+        next,
+        output: printed,
+    }
 }

@@ -1,11 +1,11 @@
 // Settings of a render pass, by their lines.
+use crate::listing::put_one;
+use crate::listing::put_sides;
 use crate::played::Played;
-use crate::played::of_kept;
-use calls::settings_by_value::set_blend_constants_by_value;
-use calls::settings_by_value::set_index_buffer_by_value;
-use calls::settings_by_value::set_scissor_rect_by_value;
-use calls::settings_by_value::set_viewport_by_value;
+use crate::played::closed;
+use crate::print::Output;
 use flat::cursor::Cursor;
+use flat::cursor::is_right;
 use flat::cursor::take_u32;
 use flat::small::take_buffer;
 use flat::small::take_color;
@@ -14,14 +14,21 @@ use flat::small::take_index_format;
 use flat::small::take_rect_f32;
 use flat::small::take_rect_u32;
 use flat::small::take_u64;
-use pipeline_calls::by_value::set_stencil_reference_by_value;
-use records::command::Record;
+use pipeline_calls::reference::plan_set_stencil_reference;
+use pipeline_calls::sides::sides_answer;
+use records::check::within;
 use records::limits::MAX_COMMANDS;
 use records::pipeline::PrivateCapabilities;
 use records::state::State;
+use single_calls::one::one_answer;
+use single_calls::settings::plan_set_blend_constants;
+use single_calls::settings::plan_set_index_buffer;
+use single_calls::settings::plan_set_scissor_rect;
+use single_calls::settings::plan_set_viewport;
 
 pub fn play_set_index_buffer(
-    list: [Record; MAX_COMMANDS],
+    out: &mut [u8],
+    output: Output,
     room: usize,
     line: &[u8],
     c: Cursor,
@@ -36,13 +43,23 @@ pub fn play_set_index_buffer(
     let after_format = format.next;
     let value = buffer.value;
     let kind = format.value;
-    let next = after_format;
-    let kept = set_index_buffer_by_value(list, room, caps, s, value.raw, offset.value, kind);
-    of_kept(kept, next)
+    let past = after_format;
+    let next = closed(line, past);
+    let part = within(room, MAX_COMMANDS);
+    let plan = plan_set_index_buffer(part, caps, s, value.raw, offset.value, kind);
+    let answer = one_answer(plan);
+    let batch = plan.batch;
+    let printed = put_one(out, output, batch, is_right(next));
+    Played {
+        answer,
+        next,
+        output: printed,
+    }
 }
 
 pub fn play_set_viewport(
-    list: [Record; MAX_COMMANDS],
+    out: &mut [u8],
+    output: Output,
     room: usize,
     line: &[u8],
     c: Cursor,
@@ -55,13 +72,23 @@ pub fn play_set_viewport(
     let after_depth = depth.next;
     let area = rect.value;
     let range = depth.value;
-    let next = after_depth;
-    let kept = set_viewport_by_value(list, room, caps, s, area, range);
-    of_kept(kept, next)
+    let past = after_depth;
+    let next = closed(line, past);
+    let part = within(room, MAX_COMMANDS);
+    let plan = plan_set_viewport(part, caps, s, area, range);
+    let answer = one_answer(plan);
+    let batch = plan.batch;
+    let printed = put_one(out, output, batch, is_right(next));
+    Played {
+        answer,
+        next,
+        output: printed,
+    }
 }
 
 pub fn play_set_scissor_rect(
-    list: [Record; MAX_COMMANDS],
+    out: &mut [u8],
+    output: Output,
     room: usize,
     line: &[u8],
     c: Cursor,
@@ -71,13 +98,23 @@ pub fn play_set_scissor_rect(
     let rect = take_rect_u32(line, c);
     let after_rect = rect.next;
     let area = rect.value;
-    let next = after_rect;
-    let kept = set_scissor_rect_by_value(list, room, caps, s, area);
-    of_kept(kept, next)
+    let past = after_rect;
+    let next = closed(line, past);
+    let part = within(room, MAX_COMMANDS);
+    let plan = plan_set_scissor_rect(part, caps, s, area);
+    let answer = one_answer(plan);
+    let batch = plan.batch;
+    let printed = put_one(out, output, batch, is_right(next));
+    Played {
+        answer,
+        next,
+        output: printed,
+    }
 }
 
 pub fn play_set_blend_constants(
-    list: [Record; MAX_COMMANDS],
+    out: &mut [u8],
+    output: Output,
     room: usize,
     line: &[u8],
     c: Cursor,
@@ -87,13 +124,23 @@ pub fn play_set_blend_constants(
     let color = take_color(line, c);
     let after_color = color.next;
     let value = color.value;
-    let next = after_color;
-    let kept = set_blend_constants_by_value(list, room, caps, s, value);
-    of_kept(kept, next)
+    let past = after_color;
+    let next = closed(line, past);
+    let part = within(room, MAX_COMMANDS);
+    let plan = plan_set_blend_constants(part, caps, s, value);
+    let answer = one_answer(plan);
+    let batch = plan.batch;
+    let printed = put_one(out, output, batch, is_right(next));
+    Played {
+        answer,
+        next,
+        output: printed,
+    }
 }
 
 pub fn play_set_stencil_reference(
-    list: [Record; MAX_COMMANDS],
+    out: &mut [u8],
+    output: Output,
     room: usize,
     line: &[u8],
     c: Cursor,
@@ -102,7 +149,16 @@ pub fn play_set_stencil_reference(
 ) -> Played {
     let reference = take_u32(line, c);
     let after_reference = reference.next;
-    let next = after_reference;
-    let kept = set_stencil_reference_by_value(list, room, caps, s, reference.value);
-    of_kept(kept, next)
+    let past = after_reference;
+    let next = closed(line, past);
+    let part = within(room, MAX_COMMANDS);
+    let plan = plan_set_stencil_reference(part, caps, s, reference.value);
+    let answer = sides_answer(plan);
+    let batch = plan.batch;
+    let printed = put_sides(out, output, batch, is_right(next));
+    Played {
+        answer,
+        next,
+        output: printed,
+    }
 }

@@ -1,14 +1,12 @@
-// The sample session: tools/session/sample.txt in the flat form, played over a list by value. It
-// prints the list.
+// The sample session: tools/session/sample.txt in the flat form, played line by line. It prints the
+// list.
 ghost use Prim.Native.Nat.{_≤_};
 ghost use lib.ListN.{length};
 use play::line::play;
 use play::played::Played;
+use play::print::Output;
 use play::print::flush;
-use play::print::put_commands;
 use records::check::within;
-use records::command::Command;
-use records::command::Record;
 use records::limits::MAX_COMMANDS;
 use records::pipeline::PrivateCapabilities;
 use records::state::State;
@@ -44,55 +42,46 @@ fn line_at(text: &[u8], at: usize) -> Span
     Span { begin, end: i }
 }
 
-// The list and the state between two calls, and where the next line begins.
+// The state and the output between two calls, and where the next line begins.
 struct Stage {
-    list: [Record; MAX_COMMANDS],
     state: State,
+    output: Output,
     at: usize,
 }
 
 fn opening() -> Stage {
-    let none = Record {
-        command: Command::PopDebugGroup,
-    };
     let state = State::new();
+    let output = Output {
+        used: 0,
+        divide: false,
+    };
     Stage {
-        list: [none; MAX_COMMANDS],
         state,
+        output,
         at: 0,
     }
 }
 
 fn after(p: Played, at: usize) -> Stage {
-    let list = p.list;
+    let output = p.output;
     let answer = p.answer;
     let state = answer.state;
-    Stage { list, state, at }
+    Stage { state, output, at }
 }
 
 // The call of the next line.
-fn next(
-    text: &[u8],
-    bytes: &mut [u8],
-    queries: &mut [u32],
-    label: &mut [u8],
-    numbers: &mut [u32],
-    regions: &mut [u64],
-    stage: Stage,
-) -> Stage {
-    let list = stage.list;
+fn next(text: &[u8], out: &mut [u8], bytes: &mut [u8], queries: &mut [u32], stage: Stage) -> Stage {
     let s = stage.state;
+    let output = stage.output;
     let span = line_at(text, stage.at);
     let begin = span.begin;
     let end = span.end;
     let p = play(
-        list,
-        256,
+        out,
+        output,
+        MAX_COMMANDS,
         bytes,
         queries,
-        label,
-        numbers,
-        regions,
         &text[begin..end],
         board(),
         s,
@@ -111,17 +100,15 @@ fn past_end(end: usize) -> usize {
 // The calls of `lines` lines.
 fn play_lines(
     text: &[u8],
+    out: &mut [u8],
     bytes: &mut [u8],
     queries: &mut [u32],
-    label: &mut [u8],
-    numbers: &mut [u32],
-    regions: &mut [u64],
     lines: usize,
 ) -> Stage {
     let mut stage = opening();
     let mut turns = lines;
     while 0 < turns {
-        stage = next(text, bytes, queries, label, numbers, regions, stage);
+        stage = next(text, out, bytes, queries, stage);
         turns -= 1;
     }
     stage
@@ -132,22 +119,8 @@ fn main() {
         b"0 0\n1 25 0 3 0 1\n0 2 4 3 1 1 0 0 0 0\n0 20 0 21 34962 4096 0\n0 25 0 3 0 1\n0 3\n0 6 2 25 37074 4096 256 8 21 34962 4096 4 8\n0 7 2 512 16 4 8\n0 8 25 37074 4096 0 4096\n0 9 22 34962 4096 21 34962 4096 2 0 256 128 128 1024 64\n3 9 22 34962 4096 21 34962 4096 1 0 0 0\n0 4 1 5 103 97 105 110 115 1 36392 3 51 52 53 1 0 0\n0 18 63 0 0 0 0 0 0 0 0 0 0 0 0 0 0 0 0 0 0 1 3 5126 0 4\n0 16 0 1 1065353216\n0 15 1 1 4 0 1 0 1 4 0 2 6 1 3 2 2 0 4 0 24 256 64 1 36 3553 1 0 4 3 71 0 25 0 4096 1 256\n0 29 4 2 1\n0 29 0 1 1\n0 30 26 36671 256 16\n0 5\n0 2 640 480 1 4 1 9 99 108 97 115 115 114 111 111 109 1 36392 3 51 52 53 1 1 1 2 3 1 2 31 3553 1 0 1 0 1 0 1 0 1 2 32 3553 1 0 1 0 1 0 0 10 4598175219545276416 4602678819172646912 4604930618986332160 4607182418800017408 1 0 33 0 1 0 1 0 1 1 0 0 0 10 4607182418800017408 4611686018427387904 4613937818241073152 4616189618054758400 1 0 34 0 1 0 1 0 1 2 0 0 0 18 13830554455654793216 4611686018427387904 13837309855095848960 4616189618054758400 1 2 35 3553 6 0 1 0 1 3 0 10 18 1065353216 7\n0 17 61 0 0 1 1 0 0 0 0 0 0 0 0 0 0 0 0 0 0 0 2 7 5126 0 4 8 35664 8 8 3 0 0 0 0 2 1 0 12 1 1 16 2 0 0 0 3 5126 0 1 0 1 4 5126 0 3 15 0 15 0 15 0 1 513 1 0 0 0 0 0\n0 15 1 1 4 0 1 0 1 4 0 2 6 1 3 2 2 0 4 0 24 256 64 1 36 3553 1 0 4 3 71 0 25 0 4096 1 0\n0 20 0 21 34962 4096 0\n0 20 1 22 34962 4096 64\n4 20 2 0 34962 16 0\n3 20 16 21 34962 4096 0\n0 19 23 34963 1024 32 0\n0 16 0 4 1 2 3 4\n0 11 35887 2 41 42 0\n0 26 6 36 -2 0 1\n0 25 0 4 5 2\n0 25 0 4 5 2\n0 25 0 4 0 2\n0 12 35887 2 41 42 0\n0 17 62 1 9 0 1 1 0 0 0 0 0 0 0 0 0 0 0 0 0 0 0 0 4 1 2 0 0 2 1 0 12 1 1 16 2 0 0 0 3 5126 0 1 4 1 1 5125 1 3 15 1 1 771 32774 770 771 32774 3 0 15 0 0 2 1069547520 0 1 519 255 15 1 7681 7680 7680 519 255 15 1 7681 7680 7680 1\n0 15 1 1 4 0 1 0 1 4 0 2 6 1 3 2 2 0 4 0 24 512 64 1 37 3553 1 0 4 3 72 0 25 0 4096 1 64\n4 15 1 1 4 0 1 0 1 4 0 2 6 1 3 2 2 0 4 0 24 512 64 1 37 3553 1 0 4 3 72 0 25 0 4096 0\n0 23 3\n0 24 1036831949 1045220557 1050253722 1065353216\n0 21 1056964608 0 1134559232 1131413504 0 1065353216\n0 22 16 16 288 208\n0 20 0 22 34962 4096 128\n0 25 0 4 7 3\n0 27 26 36671 256 0 2\n0 28 26 36671 256 64 1\n1 29 1 1 1\n0 3\n0 10 35887 2 41 42 0 1 25 37074 4096 0 8\n0 10 36392 3 51 52 53 0 3 25 37074 4096 64 8\n0 1\n";
     let mut bytes = [0u8; 256];
     let mut queries = [0u32; 16];
-    let mut label = [0u8; 64];
-    let mut numbers = [0u32; 64];
-    let mut regions = [0u64; 64];
     let mut out = [0u8; 16384];
-    let stage = play_lines(
-        text,
-        &mut bytes,
-        &mut queries,
-        &mut label,
-        &mut numbers,
-        &mut regions,
-        50,
-    );
-    let list = stage.list;
-    let s = stage.state;
-    let p = s.progress;
-    let used = put_commands(&mut out, 0, list, p.commands);
-    flush(&out, used);
+    let stage = play_lines(text, &mut out, &mut bytes, &mut queries, 50);
+    let output = stage.output;
+    flush(&out, output.used);
 }
