@@ -302,3 +302,17 @@ pub fn take_i32(line: &[u8], c: Cursor) -> TakenI32 {
         next,
     }
 }
+
+// The cursor at the end of the line, or the end is what was expected.
+pub fn closed(line: &[u8], c: Cursor) -> Cursor {
+    if !is_right(c) {
+        return c;
+    }
+    if c.at < line.len() {
+        return Cursor {
+            at: c.at,
+            wanted: Wanted::End,
+        };
+    }
+    c
+}

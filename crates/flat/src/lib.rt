@@ -5,6 +5,7 @@ pub mod fixed;
 pub mod group;
 pub mod inner;
 pub mod layout;
+pub mod lines;
 pub mod pass;
 pub mod pipeline;
 pub mod place;

@@ -1,22 +1,16 @@
 // Bind groups and immediates, by their lines.
-use crate::listing::put_group;
-use crate::listing::put_sent;
 use crate::played::MAX_NUMBERS;
 use crate::played::Played;
-use crate::played::closed;
 use crate::print::Output;
-use binding_calls::grouped::group_answer;
+use crate::tails::played_group;
+use crate::tails::played_sent;
 use binding_calls::groups::plan_set_bind_group;
 use binding_calls::sending::plan_set_immediates;
-use binding_calls::sending::sent_answer;
 use binding_calls::sending::write_bytes;
 use flat::cursor::Cursor;
-use flat::cursor::is_right;
-use flat::cursor::take_u32;
+use flat::cursor::closed;
 use flat::group::take_bind_group;
-use flat::runs::take_numbers;
-use records::check::within;
-use records::limits::MAX_COMMANDS;
+use flat::lines::immediates_line;
 use records::pipeline::PrivateCapabilities;
 use records::state::State;
 
@@ -30,32 +24,24 @@ pub fn play_set_bind_group(
     s: State,
 ) -> Played {
     let mut numbers = [0u32; MAX_NUMBERS];
-    let t = take_bind_group(line, c, &mut numbers);
-    let layout = t.layout;
-    let entries = t.entries;
-    let group = t.group;
-    let past = t.next;
+    let a = take_bind_group(line, c, &mut numbers);
+    let layout = a.layout;
+    let entries = a.entries;
+    let group = a.group;
+    let past = a.next;
     let next = closed(line, past);
-    let part = within(room, MAX_COMMANDS);
     let plan = plan_set_bind_group(
         &numbers,
-        part,
-        t.count,
+        room,
+        a.count,
         caps,
         s,
         layout,
-        t.index,
+        a.index,
         entries,
         group,
     );
-    let answer = group_answer(plan);
-    let batch = plan.batch;
-    let printed = put_group(out, output, &numbers, batch, is_right(next));
-    Played {
-        answer,
-        next,
-        output: printed,
-    }
+    played_group(out, output, &numbers, plan, next)
 }
 
 pub fn play_set_immediates(
@@ -69,28 +55,9 @@ pub fn play_set_immediates(
     s: State,
 ) -> Played {
     let mut numbers = [0u32; MAX_NUMBERS];
-    let offset = take_u32(line, c);
-    let after_offset = offset.next;
-    let words = take_numbers(line, after_offset, &mut numbers);
-    let past = words.next;
-    let next = closed(line, past);
-    let part = within(room, MAX_COMMANDS);
-    let plan = plan_set_immediates(
-        &numbers,
-        part,
-        bytes.len(),
-        words.count,
-        caps,
-        s,
-        offset.value,
-    );
+    let a = immediates_line(line, c, &mut numbers);
+    let next = a.next;
+    let plan = plan_set_immediates(&numbers, room, bytes.len(), a.count, caps, s, a.offset);
     write_bytes(bytes, &numbers, plan);
-    let answer = sent_answer(plan);
-    let batch = plan.batch;
-    let printed = put_sent(out, output, batch, is_right(next));
-    Played {
-        answer,
-        next,
-        output: printed,
-    }
+    played_sent(out, output, plan, next)
 }

@@ -1,22 +1,16 @@
 // Dispatches, and the clearing of a buffer, by their lines.
-use crate::listing::put_one;
 use crate::played::Played;
-use crate::played::closed;
 use crate::print::Output;
+use crate::tails::played_one;
 use flat::cursor::Cursor;
-use flat::cursor::is_right;
-use flat::cursor::take_u32;
-use flat::small::take_buffer;
-use flat::small::take_memory_range;
-use flat::small::take_u64;
-use records::check::within;
-use records::limits::MAX_COMMANDS;
+use flat::lines::clear_line;
+use flat::lines::dispatch_line;
+use flat::lines::place_line;
 use records::pipeline::PrivateCapabilities;
 use records::state::State;
 use single_calls::dispatches::plan_clear_buffer;
 use single_calls::dispatches::plan_dispatch_workgroups;
 use single_calls::dispatches::plan_dispatch_workgroups_indirect;
-use single_calls::one::one_answer;
 
 pub fn play_dispatch_workgroups(
     out: &mut [u8],
@@ -27,24 +21,10 @@ pub fn play_dispatch_workgroups(
     caps: PrivateCapabilities,
     s: State,
 ) -> Played {
-    let x = take_u32(line, c);
-    let after_x = x.next;
-    let y = take_u32(line, after_x);
-    let after_y = y.next;
-    let z = take_u32(line, after_y);
-    let after_z = z.next;
-    let past = after_z;
-    let next = closed(line, past);
-    let part = within(room, MAX_COMMANDS);
-    let plan = plan_dispatch_workgroups(part, caps, s, x.value, y.value, z.value);
-    let answer = one_answer(plan);
-    let batch = plan.batch;
-    let printed = put_one(out, output, batch, is_right(next));
-    Played {
-        answer,
-        next,
-        output: printed,
-    }
+    let a = dispatch_line(line, c);
+    let next = a.next;
+    let plan = plan_dispatch_workgroups(room, caps, s, a.x, a.y, a.z);
+    played_one(out, output, plan, next)
 }
 
 pub fn play_dispatch_workgroups_indirect(
@@ -56,23 +36,11 @@ pub fn play_dispatch_workgroups_indirect(
     caps: PrivateCapabilities,
     s: State,
 ) -> Played {
-    let buffer = take_buffer(line, c);
-    let after_buffer = buffer.next;
-    let value = buffer.value;
-    let offset = take_u64(line, after_buffer);
-    let after_offset = offset.next;
-    let past = after_offset;
-    let next = closed(line, past);
-    let part = within(room, MAX_COMMANDS);
-    let plan = plan_dispatch_workgroups_indirect(part, caps, s, value.raw, offset.value);
-    let answer = one_answer(plan);
-    let batch = plan.batch;
-    let printed = put_one(out, output, batch, is_right(next));
-    Played {
-        answer,
-        next,
-        output: printed,
-    }
+    let a = place_line(line, c);
+    let buffer = a.buffer;
+    let next = a.next;
+    let plan = plan_dispatch_workgroups_indirect(room, caps, s, buffer.raw, a.offset);
+    played_one(out, output, plan, next)
 }
 
 pub fn play_clear_buffer(
@@ -84,22 +52,10 @@ pub fn play_clear_buffer(
     caps: PrivateCapabilities,
     s: State,
 ) -> Played {
-    let buffer = take_buffer(line, c);
-    let after_buffer = buffer.next;
-    let range = take_memory_range(line, after_buffer);
-    let after_range = range.next;
-    let target = buffer.value;
-    let span = range.value;
-    let past = after_range;
-    let next = closed(line, past);
-    let part = within(room, MAX_COMMANDS);
-    let plan = plan_clear_buffer(part, caps, s, target, span);
-    let answer = one_answer(plan);
-    let batch = plan.batch;
-    let printed = put_one(out, output, batch, is_right(next));
-    Played {
-        answer,
-        next,
-        output: printed,
-    }
+    let a = clear_line(line, c);
+    let buffer = a.buffer;
+    let range = a.range;
+    let next = a.next;
+    let plan = plan_clear_buffer(room, caps, s, buffer, range);
+    played_one(out, output, plan, next)
 }

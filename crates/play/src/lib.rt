@@ -10,4 +10,5 @@ pub mod played;
 pub mod print;
 mod query_lines;
 mod setting_lines;
+mod tails;
 mod transfer_lines;

@@ -20,7 +20,6 @@ use crate::pipeline_lines::play_set_render_pipeline;
 use crate::played::Played;
 use crate::print::Output;
 use crate::query_lines::play_begin_query;
-use crate::query_lines::play_copy_query_results;
 use crate::query_lines::play_end_query;
 use crate::query_lines::play_reset_queries;
 use crate::query_lines::play_write_timestamp;
@@ -30,11 +29,14 @@ use crate::setting_lines::play_set_scissor_rect;
 use crate::setting_lines::play_set_stencil_reference;
 use crate::setting_lines::play_set_viewport;
 use crate::transfer_lines::play_copy_buffer_to_buffer;
+use crate::transfer_lines::play_copy_query_results;
 use crate::transfer_lines::play_transition_buffers;
 use crate::transfer_lines::play_transition_textures;
 use flat::cursor::Cursor;
 use flat::cursor::start;
 use flat::cursor::take;
+use records::check::within;
+use records::limits::MAX_COMMANDS;
 use records::pipeline::PrivateCapabilities;
 use records::state::State;
 
@@ -225,20 +227,21 @@ pub fn play(
     let t = take(line, at_code, LAST_CODE);
     let c = t.next;
     let code = t.value;
+    let part = within(room, MAX_COMMANDS);
     if code < 6 {
-        return play_pass(out, output, room, bytes, line, c, code, caps, s);
+        return play_pass(out, output, part, bytes, line, c, code, caps, s);
     }
     if code < 11 {
-        return play_transfer(out, output, room, queries, line, c, code, caps, s);
+        return play_transfer(out, output, part, queries, line, c, code, caps, s);
     }
     if code < 15 {
-        return play_query(out, output, room, line, c, code, caps, s);
+        return play_query(out, output, part, line, c, code, caps, s);
     }
     if code < 19 {
-        return play_binding(out, output, room, bytes, line, c, code, caps, s);
+        return play_binding(out, output, part, bytes, line, c, code, caps, s);
     }
     if code < 25 {
-        return play_setting(out, output, room, line, c, code, caps, s);
+        return play_setting(out, output, part, line, c, code, caps, s);
     }
-    play_shot(out, output, room, line, c, code, caps, s)
+    play_shot(out, output, part, line, c, code, caps, s)
 }

@@ -1,5 +1,5 @@
 // The commands of a plan, printed with their places in the list as they are recorded.
-ghost use Prim.Native.Nat.{ℕ, _+_, _<_, _≤_};
+ghost use Prim.Native.Nat.{ℕ, _<_, _≤_};
 ghost use Rattle.binding_calls.specs.Grouped.{GroupAllowed};
 ghost use Rattle.binding_calls.specs.ImmediatePlans.{SendAllowed};
 ghost use Rattle.draw_calls.specs.Drawn.{DrawAllowed};
@@ -47,8 +47,16 @@ fn shown(right: bool, n: usize) -> usize
     if right { n } else { 0 }
 }
 
+// Place i of those from `first` on.
+fn place(first: usize, i: usize) -> u64 {
+    if first <= 18446744073709551615 - i {
+        return (first + i) as u64;
+    }
+    18446744073709551615
+}
+
 pub fn put_one(out: &mut [u8], output: Output, batch: One, right: bool) -> Output
-    requires { ⌜ (batch .at + batch .n ≤ 4096) × ((i : ℕ) → i < batch .n → i < 1) ⌝ }
+    requires { ⌜ ((i : ℕ) → i < batch .n → i < 1) ⌝ }
 {
     let first = batch.at;
     let n = shown(right, batch.n);
@@ -56,14 +64,14 @@ pub fn put_one(out: &mut [u8], output: Output, batch: One, right: bool) -> Outpu
     let mut i: usize = 0;
     while i < n {
         let c = one_command(batch, i);
-        at = put_command(out, at, (first + i) as u64, c);
+        at = put_command(out, at, place(first, i), c);
         i += 1;
     }
     at
 }
 
 pub fn put_drawn(out: &mut [u8], output: Output, batch: Drawn, right: bool) -> Output
-    requires { ⌜ (batch .at + batch .n ≤ 4096) × ((i : ℕ) → i < batch .n → DrawAllowed batch i) ⌝ }
+    requires { ⌜ ((i : ℕ) → i < batch .n → DrawAllowed batch i) ⌝ }
 {
     let first = batch.at;
     let n = shown(right, batch.n);
@@ -71,14 +79,14 @@ pub fn put_drawn(out: &mut [u8], output: Output, batch: Drawn, right: bool) -> O
     let mut i: usize = 0;
     while i < n {
         let c = drawn_command(batch, i);
-        at = put_command(out, at, (first + i) as u64, c);
+        at = put_command(out, at, place(first, i), c);
         i += 1;
     }
     at
 }
 
 pub fn put_render(out: &mut [u8], output: Output, batch: RenderBegun, right: bool) -> Output
-    requires { ⌜ (batch .at + batch .n ≤ 4096) × ((i : ℕ) → i < batch .n → RenderAllowed batch i) ⌝ }
+    requires { ⌜ ((i : ℕ) → i < batch .n → RenderAllowed batch i) ⌝ }
 {
     let first = batch.at;
     let n = shown(right, batch.n);
@@ -86,14 +94,14 @@ pub fn put_render(out: &mut [u8], output: Output, batch: RenderBegun, right: boo
     let mut i: usize = 0;
     while i < n {
         let c = render_command(batch, i);
-        at = put_command(out, at, (first + i) as u64, c);
+        at = put_command(out, at, place(first, i), c);
         i += 1;
     }
     at
 }
 
 pub fn put_compute(out: &mut [u8], output: Output, batch: ComputeBegun, right: bool) -> Output
-    requires { ⌜ (batch .at + batch .n ≤ 4096) × ((i : ℕ) → i < batch .n → ComputeAllowed batch i) ⌝ }
+    requires { ⌜ ((i : ℕ) → i < batch .n → ComputeAllowed batch i) ⌝ }
 {
     let first = batch.at;
     let n = shown(right, batch.n);
@@ -101,14 +109,14 @@ pub fn put_compute(out: &mut [u8], output: Output, batch: ComputeBegun, right: b
     let mut i: usize = 0;
     while i < n {
         let c = compute_command(batch, i);
-        at = put_command(out, at, (first + i) as u64, c);
+        at = put_command(out, at, place(first, i), c);
         i += 1;
     }
     at
 }
 
 pub fn put_ended(out: &mut [u8], output: Output, batch: Ended, right: bool) -> Output
-    requires { ⌜ (batch .at + batch .n ≤ 4096) × ((i : ℕ) → i < batch .n → EndAllowed batch i) ⌝ }
+    requires { ⌜ ((i : ℕ) → i < batch .n → EndAllowed batch i) ⌝ }
 {
     let first = batch.at;
     let n = shown(right, batch.n);
@@ -116,14 +124,14 @@ pub fn put_ended(out: &mut [u8], output: Output, batch: Ended, right: bool) -> O
     let mut i: usize = 0;
     while i < n {
         let c = ended_command(batch, i);
-        at = put_command(out, at, (first + i) as u64, c);
+        at = put_command(out, at, place(first, i), c);
         i += 1;
     }
     at
 }
 
 pub fn put_piped(out: &mut [u8], output: Output, batch: Piped, right: bool) -> Output
-    requires { ⌜ (batch .at + batch .n ≤ 4096) × ((i : ℕ) → i < batch .n → PipedAllowed batch i) ⌝ }
+    requires { ⌜ ((i : ℕ) → i < batch .n → PipedAllowed batch i) ⌝ }
 {
     let first = batch.at;
     let n = shown(right, batch.n);
@@ -131,14 +139,14 @@ pub fn put_piped(out: &mut [u8], output: Output, batch: Piped, right: bool) -> O
     let mut i: usize = 0;
     while i < n {
         let c = piped_command(batch, i);
-        at = put_command(out, at, (first + i) as u64, c);
+        at = put_command(out, at, place(first, i), c);
         i += 1;
     }
     at
 }
 
 pub fn put_programmed(out: &mut [u8], output: Output, batch: Programmed, right: bool) -> Output
-    requires { ⌜ (batch .at + batch .n ≤ 4096) × ((i : ℕ) → i < batch .n → ProgrammedAllowed batch i) ⌝ }
+    requires { ⌜ ((i : ℕ) → i < batch .n → ProgrammedAllowed batch i) ⌝ }
 {
     let first = batch.at;
     let n = shown(right, batch.n);
@@ -146,14 +154,14 @@ pub fn put_programmed(out: &mut [u8], output: Output, batch: Programmed, right: 
     let mut i: usize = 0;
     while i < n {
         let c = programmed_command(batch, i);
-        at = put_command(out, at, (first + i) as u64, c);
+        at = put_command(out, at, place(first, i), c);
         i += 1;
     }
     at
 }
 
 pub fn put_sides(out: &mut [u8], output: Output, batch: Sides, right: bool) -> Output
-    requires { ⌜ (batch .at + batch .n ≤ 4096) × ((i : ℕ) → i < batch .n → SidesAllowed batch i) ⌝ }
+    requires { ⌜ ((i : ℕ) → i < batch .n → SidesAllowed batch i) ⌝ }
 {
     let first = batch.at;
     let n = shown(right, batch.n);
@@ -161,7 +169,7 @@ pub fn put_sides(out: &mut [u8], output: Output, batch: Sides, right: bool) -> O
     let mut i: usize = 0;
     while i < n {
         let c = sides_command(batch, i);
-        at = put_command(out, at, (first + i) as u64, c);
+        at = put_command(out, at, place(first, i), c);
         i += 1;
     }
     at
@@ -174,7 +182,7 @@ pub fn put_group(
     batch: Grouped,
     right: bool,
 ) -> Output
-    requires { ⌜ (batch .at + batch .n ≤ 4096) × ((i : ℕ) → i < batch .n → GroupAllowed (now offsets) batch i) ⌝ }
+    requires { ⌜ ((i : ℕ) → i < batch .n → GroupAllowed (now offsets) batch i) ⌝ }
 {
     let first = batch.at;
     let n = shown(right, batch.n);
@@ -182,14 +190,14 @@ pub fn put_group(
     let mut i: usize = 0;
     while i < n {
         let c = group_command(offsets, batch, i);
-        at = put_command(out, at, (first + i) as u64, c);
+        at = put_command(out, at, place(first, i), c);
         i += 1;
     }
     at
 }
 
 pub fn put_sent(out: &mut [u8], output: Output, batch: Sending, right: bool) -> Output
-    requires { ⌜ (batch .at + batch .n ≤ 4096) × ((i : ℕ) → i < batch .n → SendAllowed batch i) ⌝ }
+    requires { ⌜ ((i : ℕ) → i < batch .n → SendAllowed batch i) ⌝ }
 {
     let first = batch.at;
     let n = shown(right, batch.n);
@@ -197,7 +205,7 @@ pub fn put_sent(out: &mut [u8], output: Output, batch: Sending, right: bool) -> 
     let mut i: usize = 0;
     while i < n {
         let c = sent_command(batch, i);
-        at = put_command(out, at, (first + i) as u64, c);
+        at = put_command(out, at, place(first, i), c);
         i += 1;
     }
     at
@@ -210,7 +218,7 @@ pub fn put_barriers(
     batch: Barriers,
     right: bool,
 ) -> Output
-    requires { ⌜ (batch .at + batch .n ≤ 4096) × ((i : ℕ) → i < batch .n → BarrierAllowed (now run) batch i) ⌝ }
+    requires { ⌜ ((i : ℕ) → i < batch .n → BarrierAllowed (now run) batch i) ⌝ }
 {
     let first = batch.at;
     let n = shown(right, batch.n);
@@ -218,14 +226,14 @@ pub fn put_barriers(
     let mut i: usize = 0;
     while i < n {
         let c = barrier_command(run, batch, i);
-        at = put_command(out, at, (first + i) as u64, c);
+        at = put_command(out, at, place(first, i), c);
         i += 1;
     }
     at
 }
 
 pub fn put_copies(out: &mut [u8], output: Output, run: &[u64], batch: Copies, right: bool) -> Output
-    requires { ⌜ (batch .at + batch .n ≤ 4096) × ((i : ℕ) → i < batch .n → CopyAllowed (now run) batch i) ⌝ }
+    requires { ⌜ ((i : ℕ) → i < batch .n → CopyAllowed (now run) batch i) ⌝ }
 {
     let first = batch.at;
     let n = shown(right, batch.n);
@@ -233,14 +241,14 @@ pub fn put_copies(out: &mut [u8], output: Output, run: &[u64], batch: Copies, ri
     let mut i: usize = 0;
     while i < n {
         let c = copy_command(run, batch, i);
-        at = put_command(out, at, (first + i) as u64, c);
+        at = put_command(out, at, place(first, i), c);
         i += 1;
     }
     at
 }
 
 pub fn put_resolved(out: &mut [u8], output: Output, batch: Resolved, right: bool) -> Output
-    requires { ⌜ (batch .at + batch .n ≤ 4096) × ((i : ℕ) → i < batch .n → i < 1) ⌝ }
+    requires { ⌜ ((i : ℕ) → i < batch .n → i < 1) ⌝ }
 {
     let first = batch.at;
     let n = shown(right, batch.n);
@@ -248,7 +256,7 @@ pub fn put_resolved(out: &mut [u8], output: Output, batch: Resolved, right: bool
     let mut i: usize = 0;
     while i < n {
         let c = resolved_command(batch, i);
-        at = put_command(out, at, (first + i) as u64, c);
+        at = put_command(out, at, place(first, i), c);
         i += 1;
     }
     at

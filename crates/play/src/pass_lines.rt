@@ -1,33 +1,25 @@
 // Encodings and passes, and the vertex buffers, by their lines.
-use crate::listing::put_compute;
-use crate::listing::put_ended;
-use crate::listing::put_render;
 use crate::played::MAX_LABEL;
 use crate::played::MAX_NUMBERS;
 use crate::played::Played;
-use crate::played::closed;
 use crate::print::Output;
+use crate::tails::played_compute;
+use crate::tails::played_ended;
+use crate::tails::played_render;
 use calls::encoding::begin_encoding;
 use calls::encoding::end_encoding;
 use calls::encoding::set_vertex_buffer;
 use flat::cursor::Cursor;
-use flat::cursor::is_right;
-use flat::cursor::take_u32;
+use flat::cursor::closed;
+use flat::lines::vertex_buffer_line;
 use flat::pass::take_compute_pass;
 use flat::pass::take_render_pass;
-use flat::small::take_buffer;
-use flat::small::take_u64;
-use pass_calls::begun_compute::compute_answer;
 use pass_calls::begun_compute::plan_begin_compute;
 use pass_calls::begun_compute::write_compute_label;
 use pass_calls::begun_render::plan_begin_render;
-use pass_calls::begun_render::render_answer;
 use pass_calls::begun_render::write_render_label;
-use pass_calls::ended::end_answer;
 use pass_calls::ends::plan_end_compute_pass;
 use pass_calls::ends::plan_end_render_pass;
-use records::check::within;
-use records::limits::MAX_COMMANDS;
 use records::pipeline::PrivateCapabilities;
 use records::state::State;
 
@@ -43,32 +35,24 @@ pub fn play_begin_render_pass(
 ) -> Played {
     let mut label = [0u8; MAX_LABEL];
     let mut numbers = [0u32; MAX_NUMBERS];
-    let t = take_render_pass(line, c, &mut label, &mut numbers);
-    let d = t.value;
-    let past = t.next;
+    let a = take_render_pass(line, c, &mut label, &mut numbers);
+    let value = a.value;
+    let past = a.next;
     let next = closed(line, past);
-    let part = within(room, MAX_COMMANDS);
     let plan = plan_begin_render(
         &numbers,
-        part,
+        room,
         bytes.len(),
         label.len(),
-        t.has_label,
-        t.label_count,
-        t.set_count,
+        a.has_label,
+        a.label_count,
+        a.set_count,
         caps,
         s,
-        d,
+        value,
     );
     write_render_label(bytes, &label, plan);
-    let answer = render_answer(plan);
-    let batch = plan.batch;
-    let printed = put_render(out, output, batch, is_right(next));
-    Played {
-        answer,
-        next,
-        output: printed,
-    }
+    played_render(out, output, plan, next)
 }
 
 pub fn play_begin_compute_pass(
@@ -83,32 +67,24 @@ pub fn play_begin_compute_pass(
 ) -> Played {
     let mut label = [0u8; MAX_LABEL];
     let mut numbers = [0u32; MAX_NUMBERS];
-    let t = take_compute_pass(line, c, &mut label, &mut numbers);
-    let writes = t.writes;
-    let past = t.next;
+    let a = take_compute_pass(line, c, &mut label, &mut numbers);
+    let writes = a.writes;
+    let past = a.next;
     let next = closed(line, past);
-    let part = within(room, MAX_COMMANDS);
     let plan = plan_begin_compute(
         &numbers,
-        part,
+        room,
         bytes.len(),
         label.len(),
-        t.has_label,
-        t.label_count,
-        t.set_count,
+        a.has_label,
+        a.label_count,
+        a.set_count,
         caps,
         s,
         writes,
     );
     write_compute_label(bytes, &label, plan);
-    let answer = compute_answer(plan);
-    let batch = plan.batch;
-    let printed = put_compute(out, output, batch, is_right(next));
-    Played {
-        answer,
-        next,
-        output: printed,
-    }
+    played_compute(out, output, plan, next)
 }
 
 pub fn play_end_render_pass(
@@ -121,16 +97,8 @@ pub fn play_end_render_pass(
     s: State,
 ) -> Played {
     let next = closed(line, c);
-    let part = within(room, MAX_COMMANDS);
-    let plan = plan_end_render_pass(part, caps, s);
-    let answer = end_answer(plan);
-    let batch = plan.batch;
-    let printed = put_ended(out, output, batch, is_right(next));
-    Played {
-        answer,
-        next,
-        output: printed,
-    }
+    let plan = plan_end_render_pass(room, caps, s);
+    played_ended(out, output, plan, next)
 }
 
 pub fn play_end_compute_pass(
@@ -143,16 +111,8 @@ pub fn play_end_compute_pass(
     s: State,
 ) -> Played {
     let next = closed(line, c);
-    let part = within(room, MAX_COMMANDS);
-    let plan = plan_end_compute_pass(part, caps, s);
-    let answer = end_answer(plan);
-    let batch = plan.batch;
-    let printed = put_ended(out, output, batch, is_right(next));
-    Played {
-        answer,
-        next,
-        output: printed,
-    }
+    let plan = plan_end_compute_pass(room, caps, s);
+    played_ended(out, output, plan, next)
 }
 
 pub fn play_begin_encoding(
@@ -194,15 +154,10 @@ pub fn play_set_vertex_buffer(
     caps: PrivateCapabilities,
     s: State,
 ) -> Played {
-    let index = take_u32(line, c);
-    let after_index = index.next;
-    let buffer = take_buffer(line, after_index);
-    let after_buffer = buffer.next;
-    let offset = take_u64(line, after_buffer);
-    let past = offset.next;
-    let value = buffer.value;
-    let next = closed(line, past);
-    let answer = set_vertex_buffer(caps, s, index.value, value.raw, offset.value);
+    let a = vertex_buffer_line(line, c);
+    let buffer = a.buffer;
+    let next = a.next;
+    let answer = set_vertex_buffer(caps, s, a.index, buffer.raw, a.offset);
     Played {
         answer,
         next,

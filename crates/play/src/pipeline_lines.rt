@@ -1,19 +1,14 @@
 // Pipelines, by their lines.
-use crate::listing::put_piped;
-use crate::listing::put_programmed;
 use crate::played::Played;
-use crate::played::closed;
 use crate::print::Output;
+use crate::tails::played_piped;
+use crate::tails::played_programmed;
 use flat::cursor::Cursor;
-use flat::cursor::is_right;
+use flat::cursor::closed;
 use flat::pipeline::take_compute_pipeline;
 use flat::pipeline::take_render_pipeline;
 use pipeline_calls::compute::plan_set_compute_pipeline;
-use pipeline_calls::piped::piped_answer;
-use pipeline_calls::programmed::programmed_answer;
 use pipeline_calls::render::plan_set_render_pipeline;
-use records::check::within;
-use records::limits::MAX_COMMANDS;
 use records::pipeline::PrivateCapabilities;
 use records::state::State;
 
@@ -26,21 +21,12 @@ pub fn play_set_render_pipeline(
     caps: PrivateCapabilities,
     s: State,
 ) -> Played {
-    let p = take_render_pipeline(line, c);
-    let after_p = p.next;
-    let value = p.value;
-    let past = after_p;
+    let a = take_render_pipeline(line, c);
+    let value = a.value;
+    let past = a.next;
     let next = closed(line, past);
-    let part = within(room, MAX_COMMANDS);
-    let plan = plan_set_render_pipeline(part, caps, s, value);
-    let answer = piped_answer(plan);
-    let batch = plan.batch;
-    let printed = put_piped(out, output, batch, is_right(next));
-    Played {
-        answer,
-        next,
-        output: printed,
-    }
+    let plan = plan_set_render_pipeline(room, caps, s, value);
+    played_piped(out, output, plan, next)
 }
 
 pub fn play_set_compute_pipeline(
@@ -52,19 +38,10 @@ pub fn play_set_compute_pipeline(
     caps: PrivateCapabilities,
     s: State,
 ) -> Played {
-    let p = take_compute_pipeline(line, c);
-    let after_p = p.next;
-    let value = p.value;
-    let past = after_p;
+    let a = take_compute_pipeline(line, c);
+    let value = a.value;
+    let past = a.next;
     let next = closed(line, past);
-    let part = within(room, MAX_COMMANDS);
-    let plan = plan_set_compute_pipeline(part, caps, s, value);
-    let answer = programmed_answer(plan);
-    let batch = plan.batch;
-    let printed = put_programmed(out, output, batch, is_right(next));
-    Played {
-        answer,
-        next,
-        output: printed,
-    }
+    let plan = plan_set_compute_pipeline(room, caps, s, value);
+    played_programmed(out, output, plan, next)
 }

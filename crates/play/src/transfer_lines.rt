@@ -1,28 +1,56 @@
-// Transitions and copies, by their lines.
-use crate::listing::put_barriers;
-use crate::listing::put_copies;
-use crate::listing::put_one;
+// Transitions, copies and query results, by their lines.
 use crate::played::MAX_NUMBERS;
 use crate::played::MAX_REGIONS;
 use crate::played::Played;
-use crate::played::closed;
 use crate::print::Output;
+use crate::tails::played_barriers;
+use crate::tails::played_copies;
+use crate::tails::played_one;
+use crate::tails::played_resolved;
 use flat::cursor::Cursor;
-use flat::cursor::is_right;
+use flat::cursor::closed;
+use flat::lines::copies_line;
+use flat::lines::results_line;
 use flat::runs::take_barriers;
-use flat::runs::take_regions;
 use flat::runs::take_uses;
-use flat::small::take_buffer;
-use records::check::within;
-use records::limits::MAX_COMMANDS;
 use records::pipeline::PrivateCapabilities;
 use records::state::State;
 use single_calls::barriers::plan_transition_textures;
-use single_calls::one::one_answer;
-use transfer_calls::barriers::barriers_answer;
-use transfer_calls::regions::copies_answer;
+use transfer_calls::resolved::copy_queries;
+use transfer_calls::results::plan_copy_query_results;
 use transfer_calls::transfers::plan_copy_buffer_to_buffer;
 use transfer_calls::transfers::plan_transition_buffers;
+
+pub fn play_copy_query_results(
+    out: &mut [u8],
+    output: Output,
+    room: usize,
+    queries: &mut [u32],
+    line: &[u8],
+    c: Cursor,
+    caps: PrivateCapabilities,
+    s: State,
+) -> Played {
+    let mut numbers = [0u32; MAX_NUMBERS];
+    let a = results_line(line, c, &mut numbers);
+    let buffer = a.buffer;
+    let next = a.next;
+    let plan = plan_copy_query_results(
+        &numbers,
+        room,
+        queries.len(),
+        a.count,
+        a.target,
+        caps,
+        s,
+        a.start,
+        a.end,
+        buffer,
+        a.offset,
+    );
+    copy_queries(queries, &numbers, plan);
+    played_resolved(out, output, plan, next)
+}
 
 pub fn play_transition_buffers(
     out: &mut [u8],
@@ -34,19 +62,11 @@ pub fn play_transition_buffers(
     s: State,
 ) -> Played {
     let mut numbers = [0u32; MAX_NUMBERS];
-    let t = take_barriers(line, c, &mut numbers);
-    let past = t.next;
+    let a = take_barriers(line, c, &mut numbers);
+    let past = a.next;
     let next = closed(line, past);
-    let part = within(room, MAX_COMMANDS);
-    let plan = plan_transition_buffers(&numbers, part, t.count, caps, s);
-    let answer = barriers_answer(plan);
-    let batch = plan.batch;
-    let printed = put_barriers(out, output, &numbers, batch, is_right(next));
-    Played {
-        answer,
-        next,
-        output: printed,
-    }
+    let plan = plan_transition_buffers(&numbers, room, a.count, caps, s);
+    played_barriers(out, output, &numbers, plan, next)
 }
 
 pub fn play_transition_textures(
@@ -59,19 +79,11 @@ pub fn play_transition_textures(
     s: State,
 ) -> Played {
     let mut numbers = [0u32; MAX_NUMBERS];
-    let t = take_uses(line, c, &mut numbers);
-    let past = t.next;
+    let a = take_uses(line, c, &mut numbers);
+    let past = a.next;
     let next = closed(line, past);
-    let part = within(room, MAX_COMMANDS);
-    let plan = plan_transition_textures(&numbers, part, t.count, caps, s);
-    let answer = one_answer(plan);
-    let batch = plan.batch;
-    let printed = put_one(out, output, batch, is_right(next));
-    Played {
-        answer,
-        next,
-        output: printed,
-    }
+    let plan = plan_transition_textures(&numbers, room, a.count, caps, s);
+    played_one(out, output, plan, next)
 }
 
 pub fn play_copy_buffer_to_buffer(
@@ -84,23 +96,10 @@ pub fn play_copy_buffer_to_buffer(
     s: State,
 ) -> Played {
     let mut regions = [0u64; MAX_REGIONS];
-    let source = take_buffer(line, c);
-    let after_source = source.next;
-    let destination = take_buffer(line, after_source);
-    let after_destination = destination.next;
-    let t = take_regions(line, after_destination, &mut regions);
-    let src = source.value;
-    let dst = destination.value;
-    let past = t.next;
-    let next = closed(line, past);
-    let part = within(room, MAX_COMMANDS);
-    let plan = plan_copy_buffer_to_buffer(&regions, part, t.count, caps, s, src, dst);
-    let answer = copies_answer(plan);
-    let batch = plan.batch;
-    let printed = put_copies(out, output, &regions, batch, is_right(next));
-    Played {
-        answer,
-        next,
-        output: printed,
-    }
+    let a = copies_line(line, c, &mut regions);
+    let src = a.src;
+    let dst = a.dst;
+    let next = a.next;
+    let plan = plan_copy_buffer_to_buffer(&regions, room, a.count, caps, s, src, dst);
+    played_copies(out, output, &regions, plan, next)
 }

@@ -1,9 +1,9 @@
 // The first line of a session: the board, the rooms and the number of calls.
 use flat::cursor::Cursor;
+use flat::cursor::closed;
 use flat::cursor::start;
 use flat::cursor::take_bool;
 use flat::cursor::take_count;
-use play::played::closed;
 use records::limits::MAX_BYTES;
 use records::limits::MAX_COMMANDS;
 use records::limits::MAX_QUERIES;

@@ -1,6 +1,5 @@
 // Reads sessions in the flat form from standard input, one after another, and prints for each its
 // lists, its state and its answers: the form of tools/oracle/README.md.
-ghost use Prim.Native.Nat.{_≤_};
 
 mod header;
 mod input;
@@ -11,10 +10,10 @@ use crate::header::take_header;
 use crate::input::Input;
 use crate::input::new_input;
 use crate::input::next_line;
-use crate::run::Run;
-use crate::run::new_run;
+use crate::run::Step;
+use crate::run::first_step;
+use crate::run::next_call;
 use crate::run::put_open_list;
-use crate::run::turn;
 use flat::cursor::Cursor;
 use flat::cursor::is_right;
 use play::print::flush;
@@ -47,82 +46,17 @@ fn put_end(out: &mut [u8], used: usize, input: Input, wrong: Cursor) -> usize {
     put_error(out, used, line_number(input), wrong)
 }
 
-// A session between two calls, and how many of them are played.
-struct Step {
-    run: Run,
-    input: Input,
-    done: usize,
-}
-
 // What a session ends with: the open list, the state, the answers, and its last line.
 fn put_rest(out: &mut [u8], bytes: &[u8], queries: &[u32], answers: &[u8], step: Step) -> usize {
-    let run = step.run;
     let input = step.input;
-    let wrong = run.wrong;
-    let s = run.state;
-    let listed = put_open_list(out, bytes, queries, run);
+    let wrong = step.wrong;
+    let output = step.output;
+    let s = step.state;
+    let p = s.progress;
+    let listed = put_open_list(out, bytes, queries, output, step.listed, p);
     let stated = put_state(out, listed, s);
     let told = put_answers(out, stated, answers, step.done);
     put_end(out, told, input, wrong)
-}
-
-// The answer of the last call is kept, where its line was right.
-fn noted(answers: &mut [u8], done: usize, run: Run) -> usize {
-    let wrong = run.wrong;
-    if is_right(wrong) {
-        if done < answers.len() {
-            answers[done] = run.answer;
-            return done + 1;
-        }
-    }
-    done
-}
-
-// How much of a line is played: nothing of one that is too long.
-fn played_length(input: Input, most: usize) -> usize
-    ensures { λ r. ⌜ r ≤ most ⌝ }
-{
-    if input.long {
-        return 0;
-    }
-    within(input.length, most)
-}
-
-// The next line and its call.
-fn next_call(
-    buffer: &mut [u8],
-    line: &mut [u8],
-    out: &mut [u8],
-    bytes: &mut [u8],
-    queries: &mut [u32],
-    answers: &mut [u8],
-    step: Step,
-    h: Header,
-) -> Step {
-    let old = step.run;
-    let before = step.input;
-    let input = next_line(buffer, line, before);
-    let n = played_length(input, line.len());
-    let caps = h.caps;
-    let run = turn(
-        out,
-        bytes,
-        queries,
-        &line[..n],
-        input.long,
-        input.length,
-        h.commands,
-        caps,
-        old,
-    );
-    let done = noted(answers, step.done, run);
-    Step { run, input, done }
-}
-
-fn goes_on(step: Step) -> bool {
-    let run = step.run;
-    let wrong = run.wrong;
-    is_right(wrong)
 }
 
 // The calls of a session whose first line is read.
@@ -137,9 +71,11 @@ fn run_calls(
     h: Header,
 ) -> Step {
     let mut step = first;
+    let mut right = true;
     let mut i: usize = 0;
-    while (i < h.calls) & goes_on(step) {
+    while right & (i < h.calls) {
         step = next_call(buffer, line, out, bytes, queries, answers, step, h);
+        right = step.right;
         i += 1;
     }
     step
@@ -157,19 +93,14 @@ fn run_session(
     used: usize,
     h: Header,
 ) -> Place {
-    let run = new_run(used);
-    let first = Step {
-        run,
-        input,
-        done: 0,
-    };
+    let first = first_step(input, used);
     let last = run_calls(buffer, line, out, bytes, queries, answers, first, h);
     let printed = put_rest(out, bytes, queries, answers, last);
     let after = last.input;
     Place {
         input: after,
         used: printed,
-        more: goes_on(last),
+        more: last.right,
     }
 }
 

@@ -1,4 +1,8 @@
-// A call of a session, and the end of a list and of a session.
+// A session: its calls one after the other, its lists as they are finished, and what it ends with.
+ghost use Prim.Native.Nat.{_≤_};
+use crate::header::Header;
+use crate::input::Input;
+use crate::input::next_line;
 use calls::phase::in_closed;
 use flat::cursor::Cursor;
 use flat::cursor::Wanted;
@@ -9,34 +13,39 @@ use play::print::Output;
 use play::print::put_bytes;
 use play::print::put_divider;
 use play::print::put_queries;
+use records::check::within;
 use records::outcome::Outcome;
-use records::pipeline::PrivateCapabilities;
 use records::state::Answer;
+use records::state::Phase;
 use records::state::Progress;
 use records::state::State;
 
-// How far a session has come: its state, whether a list is finished, the output, the last call's
-// answer, and what is wrong with the last line.
-pub struct Run {
+// How far a session has come: its state, whether a list is finished, the output, the input, how many
+// calls are played, and what is wrong with the last line, if anything is.
+pub struct Step {
     pub state: State,
     pub listed: bool,
     pub output: Output,
-    pub answer: u8,
+    pub input: Input,
+    pub done: usize,
+    pub right: bool,
     pub wrong: Cursor,
 }
 
-pub fn new_run(used: usize) -> Run {
+pub fn first_step(input: Input, used: usize) -> Step {
     let state = State::new();
     let wrong = start();
     let output = Output {
         used,
         divide: false,
     };
-    Run {
+    Step {
         state,
         listed: false,
         output,
-        answer: 0,
+        input,
+        done: 0,
+        right: true,
         wrong,
     }
 }
@@ -56,12 +65,8 @@ fn number_of(outcome: Outcome) -> u8 {
 }
 
 // A list is finished where the encoder was open and is closed.
-fn finished(before: State, after: State) -> bool {
-    let old = before.progress;
-    let new = after.progress;
-    let old_phase = old.phase;
-    let new_phase = new.phase;
-    (!in_closed(old_phase)) & in_closed(new_phase)
+fn finished(before: Phase, after: Phase) -> bool {
+    (!in_closed(before)) & in_closed(after)
 }
 
 // What ends a finished list: its marker bytes and its queries.
@@ -80,6 +85,16 @@ fn put_list_end(
         return Output { used, divide: true };
     }
     output
+}
+
+// How much of a line is played: nothing of one that is too long.
+fn played_length(long: bool, length: usize, most: usize) -> usize
+    ensures { λ r. ⌜ r ≤ most ⌝ }
+{
+    if long {
+        return 0;
+    }
+    within(length, most)
 }
 
 // What is wrong with a line: it is too long where it does not fit any more.
@@ -101,48 +116,72 @@ fn state_after(right: bool, before: State, answer: Answer) -> State {
     before
 }
 
-// The call of a line, and the list that it ends. Of a line that is too long nothing is played: what
-// is handed in is empty.
-pub fn turn(
+// The call's answer is kept, where its line was right.
+fn noted(answers: &mut [u8], done: usize, right: bool, answer: u8) -> usize {
+    if right {
+        if done < answers.len() {
+            answers[done] = answer;
+            return done + 1;
+        }
+    }
+    done
+}
+
+// The next line and its call, and the list that it ends.
+pub fn next_call(
+    buffer: &mut [u8],
+    line: &mut [u8],
     out: &mut [u8],
     bytes: &mut [u8],
     queries: &mut [u32],
-    line: &[u8],
-    long: bool,
-    length: usize,
-    room: usize,
-    caps: PrivateCapabilities,
-    run: Run,
-) -> Run {
-    let s = run.state;
-    let output = run.output;
-    let p = play(out, output, room, bytes, queries, line, caps, s);
+    answers: &mut [u8],
+    step: Step,
+    h: Header,
+) -> Step {
+    let before = step.input;
+    let input = next_line(buffer, line, before);
+    let n = played_length(input.long, input.length, line.len());
+    let caps = h.caps;
+    let s = step.state;
+    let output = step.output;
+    let p = play(out, output, h.commands, bytes, queries, &line[..n], caps, s);
     let past = p.next;
-    let wrong = verdict(long, length, past);
+    let wrong = verdict(input.long, input.length, past);
+    let right = is_right(wrong);
     let answer = p.answer;
     let outcome = answer.outcome;
-    let state = state_after(is_right(wrong), s, answer);
-    let done = finished(s, state);
-    let progress = state.progress;
+    let state = state_after(right, s, answer);
+    let old = s.progress;
+    let new = state.progress;
+    let old_phase = old.phase;
+    let new_phase = new.phase;
+    let ends = finished(old_phase, new_phase);
     let printed = p.output;
-    let ended = put_list_end(out, bytes, queries, printed, done, progress);
-    Run {
+    let ended = put_list_end(out, bytes, queries, printed, ends, new);
+    let done = noted(answers, step.done, right, number_of(outcome));
+    Step {
         state,
-        listed: run.listed | done,
+        listed: step.listed | ends,
         output: ended,
-        answer: number_of(outcome),
+        input,
+        done,
+        right,
         wrong,
     }
 }
 
 // The list that is open at the end, where it has a command or is the only one.
-pub fn put_open_list(out: &mut [u8], bytes: &[u8], queries: &[u32], run: Run) -> usize {
-    let s = run.state;
-    let p = s.progress;
+pub fn put_open_list(
+    out: &mut [u8],
+    bytes: &[u8],
+    queries: &[u32],
+    output: Output,
+    listed: bool,
+    p: Progress,
+) -> usize {
     let phase = p.phase;
-    let output = run.output;
     let open = (!in_closed(phase)) & (0 < p.commands);
-    if open | (!run.listed) {
+    if open | (!listed) {
         let marked = put_bytes(out, output.used, bytes, p.bytes);
         return put_queries(out, marked, queries, p.queries);
     }
