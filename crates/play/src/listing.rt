@@ -55,19 +55,12 @@ fn place(first: usize, i: usize) -> u64 {
     18446744073709551615
 }
 
-pub fn put_one(out: &mut [u8], output: Output, batch: One, right: bool) -> Output
-    requires { ⌜ ((i : ℕ) → i < batch .n → i < 1) ⌝ }
-{
-    let first = batch.at;
-    let n = shown(right, batch.n);
-    let mut at = output;
-    let mut i: usize = 0;
-    while i < n {
-        let c = one_command(batch, i);
-        at = put_command(out, at, place(first, i), c);
-        i += 1;
+pub fn put_one(out: &mut [u8], output: Output, batch: One, right: bool) -> Output {
+    if right & (0 < batch.n) {
+        let c = one_command(batch, 0);
+        return put_command(out, output, batch.at as u64, c);
     }
-    at
+    output
 }
 
 pub fn put_drawn(out: &mut [u8], output: Output, batch: Drawn, right: bool) -> Output
@@ -247,17 +240,10 @@ pub fn put_copies(out: &mut [u8], output: Output, run: &[u64], batch: Copies, ri
     at
 }
 
-pub fn put_resolved(out: &mut [u8], output: Output, batch: Resolved, right: bool) -> Output
-    requires { ⌜ ((i : ℕ) → i < batch .n → i < 1) ⌝ }
-{
-    let first = batch.at;
-    let n = shown(right, batch.n);
-    let mut at = output;
-    let mut i: usize = 0;
-    while i < n {
-        let c = resolved_command(batch, i);
-        at = put_command(out, at, place(first, i), c);
-        i += 1;
+pub fn put_resolved(out: &mut [u8], output: Output, batch: Resolved, right: bool) -> Output {
+    if right & (0 < batch.n) {
+        let c = resolved_command(batch, 0);
+        return put_command(out, output, batch.at as u64, c);
     }
-    at
+    output
 }

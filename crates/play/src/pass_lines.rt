@@ -12,6 +12,8 @@ use calls::encoding::set_vertex_buffer;
 use flat::cursor::Cursor;
 use flat::cursor::closed;
 use flat::lines::vertex_buffer_line;
+use flat::pass::TakenComputePass;
+use flat::pass::TakenRenderPass;
 use flat::pass::take_compute_pass;
 use flat::pass::take_render_pass;
 use pass_calls::begun_compute::plan_begin_compute;
@@ -22,6 +24,36 @@ use pass_calls::ends::plan_end_compute_pass;
 use pass_calls::ends::plan_end_render_pass;
 use records::pipeline::PrivateCapabilities;
 use records::state::State;
+
+// The beginning of a render pass whose label and queries are read.
+fn begin_render(
+    out: &mut [u8],
+    output: Output,
+    room: usize,
+    bytes: &mut [u8],
+    label: &[u8],
+    set: &[u32],
+    a: TakenRenderPass,
+    next: Cursor,
+    caps: PrivateCapabilities,
+    s: State,
+) -> Played {
+    let value = a.value;
+    let plan = plan_begin_render(
+        set,
+        room,
+        bytes.len(),
+        label.len(),
+        a.has_label,
+        a.label_count,
+        a.set_count,
+        caps,
+        s,
+        value,
+    );
+    write_render_label(bytes, label, plan);
+    played_render(out, output, plan, next)
+}
 
 pub fn play_begin_render_pass(
     out: &mut [u8],
@@ -36,11 +68,27 @@ pub fn play_begin_render_pass(
     let mut label = [0u8; MAX_LABEL];
     let mut numbers = [0u32; MAX_NUMBERS];
     let a = take_render_pass(line, c, &mut label, &mut numbers);
-    let value = a.value;
     let past = a.next;
     let next = closed(line, past);
-    let plan = plan_begin_render(
-        &numbers,
+    begin_render(out, output, room, bytes, &label, &numbers, a, next, caps, s)
+}
+
+// The beginning of a compute pass whose label and queries are read.
+fn begin_compute(
+    out: &mut [u8],
+    output: Output,
+    room: usize,
+    bytes: &mut [u8],
+    label: &[u8],
+    set: &[u32],
+    a: TakenComputePass,
+    next: Cursor,
+    caps: PrivateCapabilities,
+    s: State,
+) -> Played {
+    let writes = a.writes;
+    let plan = plan_begin_compute(
+        set,
         room,
         bytes.len(),
         label.len(),
@@ -49,10 +97,10 @@ pub fn play_begin_render_pass(
         a.set_count,
         caps,
         s,
-        value,
+        writes,
     );
-    write_render_label(bytes, &label, plan);
-    played_render(out, output, plan, next)
+    write_compute_label(bytes, label, plan);
+    played_compute(out, output, plan, next)
 }
 
 pub fn play_begin_compute_pass(
@@ -68,23 +116,9 @@ pub fn play_begin_compute_pass(
     let mut label = [0u8; MAX_LABEL];
     let mut numbers = [0u32; MAX_NUMBERS];
     let a = take_compute_pass(line, c, &mut label, &mut numbers);
-    let writes = a.writes;
     let past = a.next;
     let next = closed(line, past);
-    let plan = plan_begin_compute(
-        &numbers,
-        room,
-        bytes.len(),
-        label.len(),
-        a.has_label,
-        a.label_count,
-        a.set_count,
-        caps,
-        s,
-        writes,
-    );
-    write_compute_label(bytes, &label, plan);
-    played_compute(out, output, plan, next)
+    begin_compute(out, output, room, bytes, &label, &numbers, a, next, caps, s)
 }
 
 pub fn play_end_render_pass(

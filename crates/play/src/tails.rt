@@ -55,9 +55,7 @@ use transfer_calls::regions::copies_answer;
 use transfer_calls::resolved::ResolvedPlan;
 use transfer_calls::resolved::resolved_answer;
 
-pub fn played_one(out: &mut [u8], output: Output, plan: OnePlan, next: Cursor) -> Played
-    requires { ⌜ ((i : ℕ) → i < plan .batch .n → i < 1) ⌝ }
-{
+pub fn played_one(out: &mut [u8], output: Output, plan: OnePlan, next: Cursor) -> Played {
     let batch = plan.batch;
     let printed = put_one(out, output, batch, is_right(next));
     let answer = one_answer(plan);
@@ -234,9 +232,7 @@ pub fn played_copies(
     }
 }
 
-pub fn played_resolved(out: &mut [u8], output: Output, plan: ResolvedPlan, next: Cursor) -> Played
-    requires { ⌜ ((i : ℕ) → i < plan .batch .n → i < 1) ⌝ }
-{
+pub fn played_resolved(out: &mut [u8], output: Output, plan: ResolvedPlan, next: Cursor) -> Played {
     let batch = plan.batch;
     let printed = put_resolved(out, output, batch, is_right(next));
     let answer = resolved_answer(plan);
