@@ -7,17 +7,16 @@ use Rattle.session.proofs.play_lines.Statement.{statement}
 use Rattle.session.proofs.play_lines.Tie as tie
 
 abbrev Inv-loop : tie.InvT-loop
-Inv-loop text bytes₀ queries₀ label₀ numbers₀ regions₀ lines stage₀ turns₀ bytes queries label numbers regions stage turns =
-    (length bytes ≡ length bytes₀) × (length queries ≡ length queries₀) × (length label ≡ length label₀) × (length numbers ≡ length numbers₀) × (length regions ≡ length regions₀)
+Inv-loop text out₀ bytes₀ queries₀ lines stage₀ turns₀ out bytes queries stage turns = (length out ≡ length out₀) × (length bytes ≡ length bytes₀) × (length queries ≡ length queries₀)
 
 abbrev μ-loop : tie.MeasureT-loop
-μ-loop text bytes₀ queries₀ label₀ numbers₀ regions₀ lines stage₀ turns₀ bytes queries label numbers regions stage turns = turns
+μ-loop text out₀ bytes₀ queries₀ lines stage₀ turns₀ out bytes queries stage turns = turns
 
 opening-requires : tie.Need-opening-requires Inv-loop μ-loop
 opening-requires c κs = search needs
 
 loop-holds : tie.Need-loop-holds Inv-loop μ-loop
-loop-holds c = (refl, refl, refl, refl, refl)
+loop-holds c = (refl, refl, refl)
 
 next-requires : tie.Need-next-requires Inv-loop μ-loop
 next-requires c κs = search needs
@@ -27,12 +26,11 @@ sub-turns c = omega arith
 
 loop-less : tie.Need-loop-less Inv-loop μ-loop
 loop-less c = omega arith
-
 loop-again : tie.Need-loop-again Inv-loop μ-loop
 loop-again c =
-    let k = c .before .before .before .before .before .before .before .before .before .before .next .kept in
-    let i = c .before .before .before .before .before .before .before .before .before .before .before .before .before .before .before .before .before .loop .inv in
-    (k .1 .0 ∙ i .0, k .1 .1 .0 ∙ i .1, k .1 .1 .1 .0 ∙ i .2, k .1 .1 .1 .1 .0 ∙ i .3, k .1 .1 .1 .1 .1 .0 ∙ i .4)
+    let k = c .before .before .before .before .before .before .next .kept in
+    let i = c .before .before .before .before .before .before .before .before .before .before .before .loop .inv in
+    (k .1 .0 ∙ i .0, k .1 .1 .0 ∙ i .1, k .1 .1 .1 .0 ∙ i .2)
 
 same-length : tie.Need-same-length Inv-loop μ-loop
 same-length c = c .before .loop .inv .0
@@ -42,12 +40,6 @@ same-length-2 c = c .before .loop .inv .1
 
 same-length-3 : tie.Need-same-length-3 Inv-loop μ-loop
 same-length-3 c = c .before .loop .inv .2
-
-same-length-4 : tie.Need-same-length-4 Inv-loop μ-loop
-same-length-4 c = c .before .loop .inv .3
-
-same-length-5 : tie.Need-same-length-5 Inv-loop μ-loop
-same-length-5 c = c .before .loop .inv .4
 
 returns : tie.Need-returns Inv-loop μ-loop
 returns c = search needs
@@ -67,6 +59,4 @@ play-lines-spec =
     same-length
     same-length-2
     same-length-3
-    same-length-4
-    same-length-5
     returns)
