@@ -1,11 +1,11 @@
 // The calls of a pass over a list by value. The beginning is lent the marker bytes.
 ghost use Rattle.calls.specs.Call.{draw as drawOf, begin-render-pass, end-render-pass, set-render-pipeline};
 ghost use Rattle.one_pass.specs.Kept.{KeptLists, KeptMarks};
-use crate::keeping::keep_drawn;
-use crate::keeping::keep_ended;
-use crate::keeping::keep_piped;
-use crate::keeping::keep_render;
 use crate::kept::Kept;
+use crate::written::keep_drawn;
+use crate::written::keep_ended;
+use crate::written::keep_piped;
+use crate::written::keep_render;
 use draw_calls::drawn::draw_answer;
 use draw_calls::draws::plan_draw;
 use pass_calls::begun_render::plan_begin_render;

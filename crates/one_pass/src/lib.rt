@@ -2,8 +2,8 @@
 // vertex buffer and one draw, and `end_encoding`. The contract cites specs/Script.antt; what the
 // order theorem says of it stands in proofs/InOrder.antt.
 mod by_value;
-mod keeping;
 pub mod kept;
+mod written;
 
 ghost use Rattle.one_pass.specs.Script.{passOf, Shoots, Records};
 use crate::by_value::begin_render_pass_by_value;

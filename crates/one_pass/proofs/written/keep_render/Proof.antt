@@ -1,4 +1,4 @@
--- `one_pass::keeping::keep_render` meets its contract. Invariant: the first i commands are written. Measure: those left. Assumes nothing.
+-- `one_pass::written::keep_render` meets its contract. Invariant: the first i commands are written. Measure: those left. Assumes nothing.
 use Prim.Native.Nat.{ℕ, _+_, _-_, _<_, _≤_}
 use mathlib.Core.Path.{_≡_, refl, sym, ap, _∙_}
 use native.Mathlib.Omega.{arith}
@@ -7,8 +7,8 @@ use Rattle.pass_calls.specs.BegunRender.{RenderAllowed, renderAt}
 use borrow.Author.Needs.{needs}
 use Rattle.walks.specs.Fill.{filled}
 use Rattle.walks.proofs.Filled.{filled-more, filled-none}
-use Rattle.one_pass.proofs.keeping.keep_render.Statement.{statement}
-use Rattle.one_pass.proofs.keeping.keep_render.Tie as tie
+use Rattle.one_pass.proofs.written.keep_render.Statement.{statement}
+use Rattle.one_pass.proofs.written.keep_render.Tie as tie
 
 abbrev Inv-loop : tie.InvT-loop
 Inv-loop batch at n next₀ i₀ next i = (i ≤ n) × (at + n ≤ 4096) × ((j : ℕ) → j < n → RenderAllowed batch j) × (next ≡ filled (λ j. recordOf (renderAt batch j)) next₀ at i)

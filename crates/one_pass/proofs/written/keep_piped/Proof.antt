@@ -1,17 +1,17 @@
--- `one_pass::keeping::keep_ended` meets its contract. Invariant: the first i commands are written. Measure: those left. Assumes nothing.
+-- `one_pass::written::keep_piped` meets its contract. Invariant: the first i commands are written. Measure: those left. Assumes nothing.
 use Prim.Native.Nat.{ℕ, _+_, _-_, _<_, _≤_}
 use mathlib.Core.Path.{_≡_, refl, sym, ap, _∙_}
 use native.Mathlib.Omega.{arith}
 use Rattle.calls.specs.Did.{recordOf}
-use Rattle.pass_calls.specs.Ended.{EndAllowed, endedAt}
+use Rattle.pipeline_calls.specs.Piped.{PipedAllowed, pipedAt}
 use borrow.Author.Needs.{needs}
 use Rattle.walks.specs.Fill.{filled}
 use Rattle.walks.proofs.Filled.{filled-more, filled-none}
-use Rattle.one_pass.proofs.keeping.keep_ended.Statement.{statement}
-use Rattle.one_pass.proofs.keeping.keep_ended.Tie as tie
+use Rattle.one_pass.proofs.written.keep_piped.Statement.{statement}
+use Rattle.one_pass.proofs.written.keep_piped.Tie as tie
 
 abbrev Inv-loop : tie.InvT-loop
-Inv-loop batch at n next₀ i₀ next i = (i ≤ n) × (at + n ≤ 4096) × ((j : ℕ) → j < n → EndAllowed batch j) × (next ≡ filled (λ j. recordOf (endedAt batch j)) next₀ at i)
+Inv-loop batch at n next₀ i₀ next i = (i ≤ n) × (at + n ≤ 4096) × ((j : ℕ) → j < n → PipedAllowed batch j) × (next ≡ filled (λ j. recordOf (pipedAt batch j)) next₀ at i)
 
 abbrev μ-loop : tie.MeasureT-loop
 μ-loop batch at n next₀ i₀ next i = n - i
@@ -19,8 +19,8 @@ abbrev μ-loop : tie.MeasureT-loop
 loop-holds : tie.Need-loop-holds Inv-loop μ-loop
 loop-holds c = (omega arith, c .before .pre .0, c .before .pre .1, sym (filled-none _ _ _))
 
-ended-command-requires : tie.Need-ended-command-requires Inv-loop μ-loop
-ended-command-requires c κs = c .before .loop .inv .2 (c .before .loop .i) (omega arith)
+piped-command-requires : tie.Need-piped-command-requires Inv-loop μ-loop
+piped-command-requires c κs = c .before .loop .inv .2 (c .before .loop .i) (omega arith)
 
 add-next : tie.Need-add-next Inv-loop μ-loop
 add-next c = omega arith
@@ -45,7 +45,7 @@ loop-again c =
       omega arith,
       l .inv .1,
       l .inv .2,
-      rw (l .inv .3) (filled-more (λ j. recordOf (endedAt b j)) (a .list) (b .at) (l .i) _ (ap recordOf (c .ended-command .ensures))),
+      rw (l .inv .3) (filled-more (λ j. recordOf (pipedAt b j)) (a .list) (b .at) (l .i) _ (ap recordOf (c .piped-command .ensures))),
     )
 
 returns : tie.Need-returns Inv-loop μ-loop
@@ -54,16 +54,16 @@ returns c =
     let a = c .before .before .before .args in
     let b = a .plan .batch in
     let e : l .i ≡ b .n = omega arith in
-    l .inv .3 ∙ ap (filled (λ j. recordOf (endedAt b j)) (a .list) (b .at)) e
+    l .inv .3 ∙ ap (filled (λ j. recordOf (pipedAt b j)) (a .list) (b .at)) e
 
-pub keep-ended-spec : {M : Type 1} → statement M
-keep-ended-spec =
+pub keep-piped-spec : {M : Type 1} → statement M
+keep-piped-spec =
     tie.close
     (tie.spec
     Inv-loop
     μ-loop
     loop-holds
-    ended-command-requires
+    piped-command-requires
     add-next
     mul-next
     array-set-from-next
