@@ -1,6 +1,10 @@
 // Lines of standard input, through a buffer.
+ghost use Prim.Native.Nat.{_<_};
 use libc::STDIN_FILENO;
 use records::check::within;
+
+// More turns than a loop that ends needs.
+pub const MAX_TURNS: usize = 18446744073709551615;
 
 // The unread part of the buffer; the line that was read, its length and its number from 1; whether
 // there is one, whether it was too long, and whether the input is at its end.
@@ -69,7 +73,8 @@ fn pull(buffer: &[u8], line: &mut [u8], input: Input) -> Input {
     next
 }
 
-fn counted(number: u64) -> u64 {
+// The line after `number`.
+pub fn counted(number: u64) -> u64 {
     if number < 18446744073709551615 {
         number + 1
     } else {
@@ -85,21 +90,44 @@ fn step(buffer: &mut [u8], line: &mut [u8], input: Input) -> Input {
     pull(buffer, line, filled)
 }
 
-// The next line, without its end.
-pub fn next_line(buffer: &mut [u8], line: &mut [u8], input: Input) -> Input {
+// Before a line is read.
+fn begun(input: Input) -> Input {
     let mut next = input;
     next.length = 0;
     next.there = false;
     next.long = false;
-    let mut turns: u64 = 18446744073709551615;
-    while (turns > 0) & (!(next.there | next.over)) {
-        next = step(buffer, line, next);
-        turns -= 1;
-    }
-    next.there = next.there | (0 < next.length);
-    if next.there {
-        next.number = counted(next.number);
-    }
-    next.length = within(next.length, line.len());
     next
+}
+
+// After a line is read. The last one may have no end.
+fn ended(input: Input, most: usize) -> Input {
+    let mut next = input;
+    next.there = input.there | (0 < input.length);
+    if next.there {
+        next.number = counted(input.number);
+    }
+    next.length = within(input.length, most);
+    next
+}
+
+// The turns of a loop that are left after one: none where it is done.
+pub fn turns_left(turns: usize, done: bool) -> usize
+    requires { ⌜ 0 < turns ⌝ }
+    ensures { λ r. ⌜ r < turns ⌝ }
+{
+    if done {
+        return 0;
+    }
+    turns - 1
+}
+
+// The next line, without its end.
+pub fn next_line(buffer: &mut [u8], line: &mut [u8], input: Input) -> Input {
+    let mut next = begun(input);
+    let mut turns = turns_left(MAX_TURNS, next.over);
+    while 0 < turns {
+        next = step(buffer, line, next);
+        turns = turns_left(turns, next.there | next.over);
+    }
+    ended(next, line.len())
 }

@@ -8,20 +8,28 @@ mod run;
 use crate::header::Header;
 use crate::header::take_header;
 use crate::input::Input;
+use crate::input::MAX_TURNS;
+use crate::input::counted;
 use crate::input::new_input;
 use crate::input::next_line;
-use crate::run::Step;
-use crate::run::first_step;
-use crate::run::next_call;
+use crate::input::turns_left;
+use crate::run::Tally;
+use crate::run::call_of;
+use crate::run::first_tally;
+use crate::run::played_length;
 use crate::run::put_open_list;
+use crate::run::state_after;
+use crate::run::told;
 use flat::cursor::Cursor;
 use flat::cursor::is_right;
+use play::line::play;
 use play::print::flush;
 use play::print::put;
 use play::print::put_answers;
 use play::print::put_error;
 use play::print::put_state;
 use records::check::within;
+use records::state::State;
 
 // Where the reading stands, how much of the output buffer is used, and whether there is more.
 struct Place {
@@ -32,10 +40,10 @@ struct Place {
 
 // The number of the line that is being read.
 fn line_number(input: Input) -> u64 {
-    if input.there | (input.number == 18446744073709551615) {
+    if input.there {
         return input.number;
     }
-    input.number + 1
+    counted(input.number)
 }
 
 // The last line of a session: `===`, or what is wrong.
@@ -46,42 +54,20 @@ fn put_end(out: &mut [u8], used: usize, input: Input, wrong: Cursor) -> usize {
     put_error(out, used, line_number(input), wrong)
 }
 
-// What a session ends with: the open list, the state, the answers, and its last line.
-fn put_rest(out: &mut [u8], bytes: &[u8], queries: &[u32], answers: &[u8], step: Step) -> usize {
-    let input = step.input;
-    let wrong = step.wrong;
-    let output = step.output;
-    let s = step.state;
-    let p = s.progress;
-    let listed = put_open_list(out, bytes, queries, output, step.listed, p);
-    let stated = put_state(out, listed, s);
-    let told = put_answers(out, stated, answers, step.done);
-    put_end(out, told, input, wrong)
-}
-
-// The calls of a session whose first line is read.
-fn run_calls(
-    buffer: &mut [u8],
-    line: &mut [u8],
-    out: &mut [u8],
-    bytes: &mut [u8],
-    queries: &mut [u32],
-    answers: &mut [u8],
-    first: Step,
-    h: Header,
-) -> Step {
-    let mut step = first;
-    let mut right = true;
-    let mut i: usize = 0;
-    while right & (i < h.calls) {
-        step = next_call(buffer, line, out, bytes, queries, answers, step, h);
-        right = step.right;
-        i += 1;
+// What a session ends with after its state: the answers, and its last line.
+fn put_rest(out: &mut [u8], answers: &[u8], stated: usize, tally: Tally) -> Place {
+    let input = tally.input;
+    let wrong = tally.wrong;
+    let answered = put_answers(out, stated, answers, tally.done);
+    let used = put_end(out, answered, input, wrong);
+    Place {
+        input,
+        used,
+        more: tally.right,
     }
-    step
 }
 
-// A session whose first line is right.
+// A session whose first line is right: its calls, then the open list, the state and the rest.
 fn run_session(
     buffer: &mut [u8],
     line: &mut [u8],
@@ -89,19 +75,67 @@ fn run_session(
     bytes: &mut [u8],
     queries: &mut [u32],
     answers: &mut [u8],
-    input: Input,
-    used: usize,
+    at: Place,
     h: Header,
 ) -> Place {
-    let first = first_step(input, used);
-    let last = run_calls(buffer, line, out, bytes, queries, answers, first, h);
-    let printed = put_rest(out, bytes, queries, answers, last);
-    let after = last.input;
-    Place {
-        input: after,
-        used: printed,
-        more: last.right,
+    let input = at.input;
+    let caps = h.caps;
+    let mut tally = first_tally(input, at.used);
+    let mut s = State::new();
+    let mut turns = h.calls;
+    while 0 < turns {
+        let before = tally.input;
+        let output = tally.output;
+        let progress = s.progress;
+        let next = next_line(buffer, line, before);
+        let n = played_length(next.long, next.length, line.len());
+        let p = play(out, output, h.commands, bytes, queries, &line[..n], caps, s);
+        let past = p.next;
+        let printed = p.output;
+        let answer = p.answer;
+        let outcome = answer.outcome;
+        let after = answer.state;
+        let reached = after.progress;
+        let call = call_of(progress, reached, past, printed, outcome);
+        tally = told(out, bytes, queries, answers, tally, next, call);
+        s = state_after(tally.right, s, after);
+        turns = turns_left(turns, !tally.right);
     }
+    let last = s.progress;
+    let listed = put_open_list(out, bytes, queries, tally, last);
+    let stated = put_state(out, listed, s);
+    put_rest(out, answers, stated, tally)
+}
+
+// The first line of the next session: where the reading stands after it, whether there is a session
+// and its first line is right, and what that line says.
+struct Opening {
+    place: Place,
+    header: Header,
+}
+
+// What is wrong with a first line is printed, where there is one.
+fn put_refusal(out: &mut [u8], used: usize, input: Input, wrong: Cursor) -> usize {
+    if input.there & (!is_right(wrong)) {
+        return put_error(out, used, input.number, wrong);
+    }
+    used
+}
+
+// The next session's first line is read.
+fn open(buffer: &mut [u8], line: &mut [u8], out: &mut [u8], at: Place, most: usize) -> Opening {
+    let before = at.input;
+    let input = next_line(buffer, line, before);
+    let n = within(input.length, line.len());
+    let header = take_header(&line[..n], most);
+    let wrong = header.next;
+    let used = put_refusal(out, at.used, input, wrong);
+    let place = Place {
+        input,
+        used,
+        more: input.there & is_right(wrong),
+    };
+    Opening { place, header }
 }
 
 // A session, where there is one more.
@@ -114,24 +148,11 @@ fn session(
     answers: &mut [u8],
     at: Place,
 ) -> Place {
-    let before = at.input;
-    let input = next_line(buffer, line, before);
-    if !input.there {
-        return Place {
-            input,
-            used: at.used,
-            more: false,
-        };
-    }
-    let n = within(input.length, line.len());
-    let h = take_header(&line[..n], answers.len());
-    let wrong = h.next;
-    if !is_right(wrong) {
-        return Place {
-            input,
-            used: put_error(out, at.used, input.number, wrong),
-            more: false,
-        };
+    let opening = open(buffer, line, out, at, answers.len());
+    let place = opening.place;
+    let h = opening.header;
+    if !place.more {
+        return place;
     }
     let b = within(h.bytes, bytes.len());
     let q = within(h.queries, queries.len());
@@ -142,8 +163,7 @@ fn session(
         &mut bytes[..b],
         &mut queries[..q],
         answers,
-        input,
-        at.used,
+        place,
         h,
     )
 }
@@ -160,8 +180,8 @@ fn main() {
         used: 0,
         more: true,
     };
-    let mut turns: u64 = 18446744073709551615;
-    while (turns > 0) & at.more {
+    let mut turns = MAX_TURNS;
+    while 0 < turns {
         at = session(
             &mut buffer,
             &mut line,
@@ -171,7 +191,7 @@ fn main() {
             &mut answers,
             at,
         );
-        turns -= 1;
+        turns = turns_left(turns, !at.more);
     }
     flush(&out, at.used);
 }

@@ -1,29 +1,24 @@
-// A session: its calls one after the other, its lists as they are finished, and what it ends with.
+// The parts of a session: what a line's call comes to, and its lists as they are finished.
 ghost use Prim.Native.Nat.{_≤_};
-use crate::header::Header;
 use crate::input::Input;
-use crate::input::next_line;
 use calls::phase::in_closed;
 use flat::cursor::Cursor;
 use flat::cursor::Wanted;
 use flat::cursor::is_right;
 use flat::cursor::start;
-use play::line::play;
 use play::print::Output;
 use play::print::put_bytes;
 use play::print::put_divider;
 use play::print::put_queries;
 use records::check::within;
 use records::outcome::Outcome;
-use records::state::Answer;
 use records::state::Phase;
 use records::state::Progress;
 use records::state::State;
 
-// How far a session has come: its state, whether a list is finished, the output, the input, how many
-// calls are played, and what is wrong with the last line, if anything is.
-pub struct Step {
-    pub state: State,
+// How far a session has come, beside its state: whether a list is finished, the output, the input,
+// how many calls are played, and what is wrong with the last line, if anything is.
+pub struct Tally {
     pub listed: bool,
     pub output: Output,
     pub input: Input,
@@ -32,15 +27,23 @@ pub struct Step {
     pub wrong: Cursor,
 }
 
-pub fn first_step(input: Input, used: usize) -> Step {
-    let state = State::new();
+// What a line's call comes to, beside its state: the cursor past the line, the number of its outcome,
+// the output, whether it ends a list, and the progress after it.
+pub struct Call {
+    pub next: Cursor,
+    pub number: u8,
+    pub output: Output,
+    pub ends: bool,
+    pub progress: Progress,
+}
+
+pub fn first_tally(input: Input, used: usize) -> Tally {
     let wrong = start();
     let output = Output {
         used,
         divide: false,
     };
-    Step {
-        state,
+    Tally {
         listed: false,
         output,
         input,
@@ -88,7 +91,7 @@ fn put_list_end(
 }
 
 // How much of a line is played: nothing of one that is too long.
-fn played_length(long: bool, length: usize, most: usize) -> usize
+pub fn played_length(long: bool, length: usize, most: usize) -> usize
     ensures { λ r. ⌜ r ≤ most ⌝ }
 {
     if long {
@@ -109,11 +112,30 @@ fn verdict(long: bool, length: usize, next: Cursor) -> Cursor {
 }
 
 // The state after a call, or before it where its line is wrong.
-fn state_after(right: bool, before: State, answer: Answer) -> State {
+pub fn state_after(right: bool, before: State, after: State) -> State {
     if right {
-        return answer.state;
+        return after;
     }
     before
+}
+
+// The call that a line makes, from the progress before it and after it.
+pub fn call_of(
+    before: Progress,
+    progress: Progress,
+    next: Cursor,
+    output: Output,
+    outcome: Outcome,
+) -> Call {
+    let old = before.phase;
+    let new = progress.phase;
+    Call {
+        next,
+        number: number_of(outcome),
+        output,
+        ends: finished(old, new),
+        progress,
+    }
 }
 
 // The call's answer is kept, where its line was right.
@@ -127,42 +149,27 @@ fn noted(answers: &mut [u8], done: usize, right: bool, answer: u8) -> usize {
     done
 }
 
-// The next line and its call, and the list that it ends.
-pub fn next_call(
-    buffer: &mut [u8],
-    line: &mut [u8],
+// A call is told: the list that it ends, and its answer.
+pub fn told(
     out: &mut [u8],
-    bytes: &mut [u8],
-    queries: &mut [u32],
+    bytes: &[u8],
+    queries: &[u32],
     answers: &mut [u8],
-    step: Step,
-    h: Header,
-) -> Step {
-    let before = step.input;
-    let input = next_line(buffer, line, before);
-    let n = played_length(input.long, input.length, line.len());
-    let caps = h.caps;
-    let s = step.state;
-    let output = step.output;
-    let p = play(out, output, h.commands, bytes, queries, &line[..n], caps, s);
-    let past = p.next;
+    before: Tally,
+    input: Input,
+    call: Call,
+) -> Tally {
+    let past = call.next;
     let wrong = verdict(input.long, input.length, past);
     let right = is_right(wrong);
-    let answer = p.answer;
-    let outcome = answer.outcome;
-    let state = state_after(right, s, answer);
-    let old = s.progress;
-    let new = state.progress;
-    let old_phase = old.phase;
-    let new_phase = new.phase;
-    let ends = finished(old_phase, new_phase);
-    let printed = p.output;
-    let ended = put_list_end(out, bytes, queries, printed, ends, new);
-    let done = noted(answers, step.done, right, number_of(outcome));
-    Step {
-        state,
-        listed: step.listed | ends,
-        output: ended,
+    let ends = right & call.ends;
+    let printed = call.output;
+    let progress = call.progress;
+    let output = put_list_end(out, bytes, queries, printed, ends, progress);
+    let done = noted(answers, before.done, right, call.number);
+    Tally {
+        listed: before.listed | ends,
+        output,
         input,
         done,
         right,
@@ -175,13 +182,13 @@ pub fn put_open_list(
     out: &mut [u8],
     bytes: &[u8],
     queries: &[u32],
-    output: Output,
-    listed: bool,
+    tally: Tally,
     p: Progress,
 ) -> usize {
+    let output = tally.output;
     let phase = p.phase;
     let open = (!in_closed(phase)) & (0 < p.commands);
-    if open | (!listed) {
+    if open | (!tally.listed) {
         let marked = put_bytes(out, output.used, bytes, p.bytes);
         return put_queries(out, marked, queries, p.queries);
     }
