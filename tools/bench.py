@@ -1,0 +1,139 @@
+#!/usr/bin/env python3
+"""bench.py ORACLE [options] [ROW...]: see tools/bench.sh."""
+import argparse
+import os
+import statistics
+import subprocess
+import sys
+import tempfile
+
+HERE = os.path.dirname(os.path.abspath(__file__))
+RUNS = 60
+# The rows of tools/bench/main.rt.txt, by number; `oracle bench` has the same names.
+NAMES = ["typical", "draw", "draw_instance", "set_vertex_buffer", "set_vertex_buffer+draw", "set_bind_group",
+         "set_render_pipeline_same", "set_render_pipeline", "set_immediates", "draw_indexed", "set_viewport"]
+# label, row, layout, turns of a session, what a turn is
+ROWS = [
+    ("typical", "typical", 1, 500, "draw of a typical session"),
+    ("typical_no_layout", "typical", 0, 500, "the same, without VERTEX_BUFFER_LAYOUT"),
+    ("draw", "draw", 1, 200, "draw, nothing dirty"),
+    ("draw_instance", "draw_instance", 1, 200, "draw, one instance slot rebound"),
+    ("set_vertex_buffer", "set_vertex_buffer", 1, 200, "set_vertex_buffer"),
+    ("set_vertex_buffer+draw", "set_vertex_buffer+draw", 1, 200, "set_vertex_buffer and draw"),
+    ("set_bind_group", "set_bind_group", 1, 200, "set_bind_group of 5 entries"),
+    ("set_render_pipeline_same", "set_render_pipeline_same", 1, 200, "set_render_pipeline, the same"),
+    ("set_render_pipeline", "set_render_pipeline", 1, 200, "set_render_pipeline, another"),
+    ("set_immediates", "set_immediates", 1, 200, "set_immediates of 4 words"),
+    ("draw_indexed", "draw_indexed", 1, 200, "draw_indexed, nothing dirty"),
+    ("set_viewport", "set_viewport", 1, 200, "set_viewport"),
+    ("growth_500", "typical", 1, 80, "draw of a typical session"),
+    ("growth_1000", "typical", 1, 161, "draw of a typical session"),
+    ("growth_2000", "typical", 1, 324, "draw of a typical session"),
+    ("growth_4000", "typical", 1, 648, "draw of a typical session"),
+]
+TURNS_OF_A_RUN = 4000  # a run is short, so that few of them are disturbed by other work
+
+
+def stop(message):
+    sys.exit(f"bench: {message}")
+
+
+def run(words, text=None):
+    p = subprocess.run(words, input=text, capture_output=True, text=True)
+    if p.returncode or p.stderr:
+        stop(f"{' '.join(words)}: status {p.returncode}\n{p.stderr}")
+    return p.stdout
+
+
+def build(folder):
+    program = os.path.join(folder, "bench")
+    words = [sys.executable, os.path.join(HERE, "native", "build.py"), "bench", program, "--source", os.path.join(HERE, "bench"),
+             "--also", os.path.join(HERE, "harness", "lines.rt.txt")]
+    if subprocess.run(words).returncode:
+        sys.exit(2)
+    return program
+
+
+class Bench:
+    def __init__(self, oracle, program, folder):
+        self.oracle, self.program = oracle, program
+        self.scripts, self.flat = [], []
+        for layout in (0, 1):
+            path = os.path.join(folder, f"objects{layout}.txt")
+            with open(path, "w") as f:
+                f.write(f"caps layout={layout}\n" + open(os.path.join(HERE, "bench", "objects.txt")).read())
+            self.scripts.append(path)
+            self.flat.append(run([oracle, "flat", path]))
+
+    def rust(self, row, *more):
+        _, name, layout, count, _ = row
+        return run([self.oracle, "bench", name, "--objects", self.scripts[layout], "--count", str(count), *more])
+
+    def mine(self, row, runs, rounds, as_list):
+        _, name, layout, count, _ = row
+        return run([self.program], f"{NAMES.index(name)} {count} {runs} {rounds} {as_list}\n" + self.flat[layout])
+
+    def commands(self, row):
+        """The commands of a session, which must be the same on both sides."""
+        expected, got = self.rust(row, "--list"), self.mine(row, 1, 1, 1)
+        if expected != got:
+            a, b = next((a, b) for a, b in zip(expected.splitlines() + [""], got.splitlines() + [""]) if a != b)
+            stop(f"{row[0]}: the lists differ\n  the Rust: {a}\n  compared: {b}")
+        return sum(line[:1].isdigit() for line in expected.splitlines())
+
+    def times(self, row, repeats):
+        """Nanoseconds a turn: the runs of the Rust, of the Rust with a new list each session, and of this library."""
+        count = row[3]
+        rounds = max(1, TURNS_OF_A_RUN // count)
+        words = ["--runs", str(RUNS), "--rounds", str(rounds)]
+        made = [], [], []
+        for _ in range(repeats):
+            for out, text in zip(made, (self.rust(row, *words), self.rust(row, *words, "--fresh"), self.mine(row, RUNS, rounds, 0))):
+                out += [int(n) / rounds / count for n in text.split()]
+        return made
+
+
+def session_calls(row):
+    """The calls of a whole session of the typical row."""
+    count = row[3]
+    return 4 + 3 * count + (count + 9) // 10 + (count + 1) // 2
+
+
+def rate(row, values):
+    a_call = statistics.median(values) * row[3] / session_calls(row)
+    return f"{a_call:.1f} ns a call, {1e9 / a_call:,.0f} calls a second"
+
+
+def shown(values):
+    return f"{min(values):.1f}/{statistics.median(values):.1f}"
+
+
+def main():
+    parser = argparse.ArgumentParser(prog="bench.sh")
+    parser.add_argument("oracle")
+    parser.add_argument("--repeats", type=int, default=7)
+    parser.add_argument("--program")
+    parser.add_argument("rows", metavar="ROW", nargs="*")
+    args = parser.parse_intermixed_args()
+    unknown = set(args.rows) - {row[0] for row in ROWS}
+    if unknown:
+        stop(f"no row {', '.join(sorted(unknown))}; there are {', '.join(row[0] for row in ROWS)}")
+    with tempfile.TemporaryDirectory() as folder:
+        bench = Bench(args.oracle, args.program or build(folder), folder)
+        print("ns a turn, smallest/median; fresh: the Rust with a new list for each session, which grows")
+        print("| row | a turn | turns of a session | its commands | Rust | Rust, fresh | this | ratio of medians |")
+        print("|---|---|---|---|---|---|---|---|")
+        rates = []
+        for row in ROWS:
+            if args.rows and row[0] not in args.rows:
+                continue
+            commands = bench.commands(row)
+            rust, fresh, mine = bench.times(row, args.repeats)
+            ratio = statistics.median(mine) / statistics.median(rust)
+            print(f"| {row[0]} | {row[4]} | {row[3]} | {commands} | {shown(rust)} | {shown(fresh)} | {shown(mine)} | {ratio:.1f} |", flush=True)
+            if row[1] == "typical":
+                rates.append(f"{row[0]}, {session_calls(row)} calls, {commands} commands: Rust {rate(row, rust)}; this {rate(row, mine)}")
+        print("\n".join(rates))
+
+
+main()

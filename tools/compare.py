@@ -1,0 +1,119 @@
+#!/usr/bin/env python3
+"""compare.py ORACLE FROM TO [options]: see tools/compare.sh."""
+import argparse
+import itertools
+import os
+import subprocess
+import sys
+import tempfile
+
+HERE = os.path.dirname(os.path.abspath(__file__))
+BATCH = 1000  # sessions that are held on disk at a time
+END = b"===\n"
+
+
+def stop(message):
+    sys.exit(f"compare: {message}")
+
+
+def arguments():
+    parser = argparse.ArgumentParser(prog="compare.sh")
+    parser.add_argument("oracle")
+    parser.add_argument("first", metavar="FROM", type=int)
+    parser.add_argument("end", metavar="TO", type=int)
+    parser.add_argument("--long", action="store_true")
+    parser.add_argument("--calls", type=int)
+    which = parser.add_mutually_exclusive_group()
+    which.add_argument("--program", default=os.path.join(os.path.dirname(HERE), "target", "bin", "script"))
+    which.add_argument("--native", action="store_true")
+    which.add_argument("--harness", action="store_true")
+    args = parser.parse_args()
+    if not 0 <= args.first < args.end:
+        stop("FROM must be below TO")
+    return args
+
+
+def build(args, folder):
+    """The program that is compared with the Rust."""
+    if not (args.native or args.harness):
+        if not os.access(args.program, os.X_OK):
+            stop(f"no program {args.program}: rt check script makes it, --native builds it unproved")
+        return os.path.abspath(args.program)
+    program = os.path.join(folder, "program")
+    what = ["script", program] if args.native else ["harness", program, "--source", os.path.join(HERE, "harness")]
+    if subprocess.run([sys.executable, os.path.join(HERE, "native", "build.py"), *what]).returncode:
+        sys.exit(2)
+    return program
+
+
+def rust(args, folder, first, end):
+    """Writes the files flat, out and index of the seeds; answers the index: seed, calls, refused, commands."""
+    options = ["--long"] if args.long else []
+    if args.calls is not None:
+        options += ["--calls", str(args.calls)]
+    files = [os.path.join(folder, name) for name in ("flat", "out", "index")]
+    p = subprocess.run([args.oracle, "batch", str(first), str(end), *options, "--flat", files[0], "--out", files[1], "--index", files[2]])
+    if p.returncode:
+        stop(f"the oracle failed on the seeds {first} to {end}")
+    return [tuple(map(int, line.split())) for line in open(files[2])]
+
+
+def mine(program, folder, index):
+    with open(os.path.join(folder, "flat"), "rb") as given:
+        p = subprocess.run([program], stdin=given, capture_output=True)
+    if p.returncode or p.stderr:
+        done = p.stdout.count(b"\n" + END)
+        seed = index[min(done, len(index) - 1)][0]
+        stop(f"seed {seed}: the program stops with status {p.returncode}\n{p.stderr.decode(errors='replace')[:1000]}")
+    return p.stdout
+
+
+def parts(text):
+    """What is printed for each session; what follows the last end is a part too."""
+    *whole, rest = text.split(b"\n" + END)
+    return whole + ([rest] if rest else [])
+
+
+def differences(index, expected, got):
+    """The seeds whose output differs, and the first difference in words."""
+    seeds, told = [], None
+    for row, want, have in itertools.zip_longest(index, parts(expected), parts(got)):
+        if want == have:
+            continue
+        seed = row[0] if row else index[-1][0]
+        seeds.append(seed)
+        told = told or words(seed, want, have)
+    return seeds, told
+
+
+def words(seed, want, have):
+    if want is None or have is None:
+        return f"seed {seed}: " + ("more is printed than asked for" if want is None else "nothing is printed")
+    pairs = itertools.zip_longest(want.split(b"\n"), have.split(b"\n"))
+    at, (a, b) = next((i, p) for i, p in enumerate(pairs) if p[0] != p[1])
+    show = lambda line: "(no line)" if line is None else line[:300].decode(errors="replace")
+    return f"seed {seed}: line {at + 1} of its output\n  the Rust: {show(a)}\n  compared: {show(b)}"
+
+
+def main():
+    args = arguments()
+    total, differ, told = [0] * 5, [], None
+    with tempfile.TemporaryDirectory() as folder:
+        program = build(args, folder)
+        for first in range(args.first, args.end, BATCH):
+            index = rust(args, folder, first, min(first + BATCH, args.end))
+            got = mine(program, folder, index)
+            expected = open(os.path.join(folder, "out"), "rb").read()
+            if got != expected:
+                seeds, first_told = differences(index, expected, got)
+                differ += seeds
+                told = told or first_told
+            counts = [len(index), sum(r[2] > 0 for r in index), *(sum(r[k] for r in index) for k in (1, 2, 3))]
+            total = [a + b for a, b in zip(total, counts)]
+    print("sessions {}, with refused calls {}, calls {}, refused {}, commands {}, differences {}".format(*total, len(differ)))
+    if differ:
+        print(told, file=sys.stderr)
+        sys.exit(1)
+
+
+main()

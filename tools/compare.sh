@@ -1,0 +1,17 @@
+#!/bin/sh
+# compare.sh FROM TO [--long] [--calls N] [--program PATH] [--native] [--harness]
+# The random sessions of the seeds from FROM to TO (without TO) on the Rust (tools/oracle) and on a program that reads the
+# flat form; everything that they print is compared byte for byte. Exit 1 on a difference, with the first seed that differs.
+#   --long          sessions of 2,000 calls in one list, most of them until the list is full
+#   --calls N       calls of a session: 60 if not given
+#   --program PATH  the program: target/bin/script if not given (rt check script)
+#   --native        the program `script` built natively and unproved (tools/native/build.py)
+#   --harness       the 31 public calls over lent runs, built natively and unproved (tools/harness)
+# Odd seeds have refused calls; every 16 pairs of seeds have each set of flags once; sessions are whole, cut inside a pass, or have
+# a room that just suffices or is short by one (tools/oracle/README.md, `batch`). It needs a Rust compiler with the
+# packages that tools/oracle/README.md names.
+set -eu
+here=$(cd "$(dirname "$0")" && pwd -P)
+command -v cargo >/dev/null || { echo "compare.sh: no cargo: a Rust compiler is needed" >&2; exit 2; }
+(cd "$here/oracle" && cargo build -q --offline)
+exec python3 "$here/compare.py" "${CARGO_TARGET_DIR:-$here/oracle/target}/debug/oracle" "$@"
