@@ -14,4 +14,4 @@ for folder in crates/*/must-fail/slow; do
     name=$(basename "$(dirname "$(dirname "$folder")")")
     if [ $# -eq 0 ] || [[ " $* " == *" $name "* ]]; then mv "$folder"/*.edit "crates/$name/must-fail/"; fi
 done
-rt must-fail
+rt must-fail "$@"
