@@ -14,7 +14,8 @@ fn texture_state(b: BindState, slot: u32, target: u32) -> BindState
     let mut next = b;
     if slot < 16 {
         let at = slot as usize;
-        let unit = b.texture_slots[at];
+        let units = b.texture_slots;
+        let unit = units[at];
         let named = TextureSlotDesc {
             tex_target: target,
             sampler_index: unit.sampler_index,

@@ -22,7 +22,8 @@ pub fn group_at(l: PipelineLayout, i: u32) -> GroupShape
 {
     let at = i as usize;
     if at < within(l.group_count, MAX_BIND_GROUPS) {
-        l.groups[at]
+        let groups = l.groups;
+        groups[at]
     } else {
         GroupShape {
             present: false,
@@ -43,9 +44,10 @@ fn long_group(l: PipelineLayout) -> bool
 {
     let mut left = within(l.group_count, MAX_BIND_GROUPS);
     let mut long = false;
+    let groups = l.groups;
     while 0 < left {
         left = left - 1;
-        let shape = l.groups[left];
+        let shape = groups[left];
         long = (MAX_BINDINGS < shape.entry_count) | long;
     }
     long

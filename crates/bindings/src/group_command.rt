@@ -38,9 +38,11 @@ pub fn group_command_at(
     let mut left = k;
     let mut used: u32 = 0;
     let mut j: usize = 0;
+    let entries = e.entries;
+    let contents = g.contents;
     while j < n {
-        let entry = e.entries[j];
-        let content = g.contents[j];
+        let entry = entries[j];
+        let content = contents[j];
         let raw = content.binding;
         let one = one_if(records_one(raw));
         if left < one {

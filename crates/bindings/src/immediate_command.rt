@@ -44,8 +44,9 @@ pub fn place_descriptors(i: ImmediateState, at: u32) -> Placed
         total: 0,
     };
     let mut j: usize = 0;
+    let descs = i.descs;
     while j < n {
-        let d = i.descs[j];
+        let d = descs[j];
         p.at[j] = first + p.total;
         p.total = p.total + at_most(d.size_bytes, 256);
         j = j + 1;
@@ -59,10 +60,12 @@ pub fn immediate_command_at(i: ImmediateState, placed: Placed, k: u32) -> Comman
 {
     let j = k as usize;
     if j < within(i.count, MAX_IMMEDIATES_COMMANDS) {
-        let d = i.descs[j];
+        let descs = i.descs;
+        let places = placed.at;
+        let d = descs[j];
         Command::SetImmediates {
             uniform: d,
-            offset: placed.at[j],
+            offset: places[j],
         }
     } else {
         Command::PopDebugGroup
@@ -75,7 +78,8 @@ fn descriptor_byte(i: ImmediateState, d: ImmediateDesc, j: u32) -> u8
 {
     let at = ((d.offset / 4) as usize) + ((j / 4) as usize);
     if at < 64 {
-        byte_at(i.words[at], j % 4)
+        let words = i.words;
+        byte_at(words[at], j % 4)
     } else {
         byte_at(0, j % 4)
     }
@@ -88,8 +92,9 @@ pub fn immediate_byte_at(i: ImmediateState, k: u32) -> u8
     let n = within(i.count, MAX_IMMEDIATES_COMMANDS);
     let mut left = k;
     let mut j: usize = 0;
+    let descs = i.descs;
     while j < n {
-        let d = i.descs[j];
+        let d = descs[j];
         if left < d.size_bytes {
             return descriptor_byte(i, d, left);
         }

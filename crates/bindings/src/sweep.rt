@@ -102,9 +102,11 @@ pub fn sweep_entries(
         over: false,
     };
     let mut j: usize = 0;
+    let entries = e.entries;
+    let contents = g.contents;
     while j < n {
-        let entry = e.entries[j];
-        let content = g.contents[j];
+        let entry = entries[j];
+        let content = contents[j];
         let raw = content.binding;
         let none = none_left(offsets, count, sweep.used);
         let next = offset_at(offsets, count, sweep.used);

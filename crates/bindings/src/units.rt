@@ -13,7 +13,8 @@ pub fn unit_at(b: BindState, u: u32) -> TextureSlotDesc
 {
     if u < 16 {
         let at = u as usize;
-        b.texture_slots[at]
+        let units = b.texture_slots;
+        units[at]
     } else {
         TextureSlotDesc {
             tex_target: 0,
@@ -38,7 +39,8 @@ fn raw_sampler(b: BindState, k: u32) -> u32
 {
     if k < 16 {
         let at = k as usize;
-        b.samplers[at]
+        let samplers = b.samplers;
+        samplers[at]
     } else {
         0
     }

@@ -6,7 +6,8 @@ use native.Mathlib.Omega.{arith}
 use lib.Dec.{ltb}
 use borrow.Author.Tests.{ltb-false}
 use Rattle.records.specs.Outcome.{accepted, smallest, either}
-use Rattle.records.specs.Check.{overRoom, stateConditions}
+use Rattle.records.specs.Check.{overRoom, brokenLimits, stateConditions}
+use Rattle.records.specs.declared.check.Broken.{Broken}
 use Rattle.records.specs.declared.check.Rooms.{Rooms}
 use Rattle.records.specs.declared.outcome.Conditions.{Conditions}
 use Rattle.records.specs.declared.outcome.Outcome.{Outcome}
@@ -14,7 +15,7 @@ use Rattle.records.specs.declared.state.Phase.{Phase}
 use Rattle.records.specs.declared.state.Progress.{Progress}
 use Rattle.records.specs.declared.state.State.{State}
 use Rattle.calls.specs.declared.judge.Counts.{Counts}
-use Rattle.calls.specs.Judge.{grown, asked, judged, taken}
+use Rattle.calls.specs.Judge.{grown, asked, judged, judgedBy, taken}
 
 pub bad : {X : Type 0} → false ≡ true → X
 bad e = let z : _≡_ {A = ℕ} 0 1 = cc in absurd (omega arith)
@@ -84,25 +85,31 @@ within p r e =
       queries-fit = ltb-false _ _ (f .1);
     }
 
+module _ (rooms : Rooms) (b : Broken) (p : Progress) (c : Conditions) (phase : Phase) (more : Counts) where
+  abbrev verdict : Outcome
+  verdict = judgedBy rooms b p c phase more
+
+  -- carried through: what it appends has room
+  pub fitting-by : accepted verdict ≡ true → Within (grown p phase more) rooms
+  fitting-by e = within (grown p phase more) rooms (neither (c .room) _ (neither (overRoom p rooms) _ (none-holds _ e .room) .1) .1)
+
+  -- the verdict, and the test of it
+  pub said : {o : Outcome} {t u : Bool} → o ≡ verdict → t ≡ accepted o → t ≡ u → accepted verdict ≡ u
+  said e a h = sym (ap accepted e) ∙ sym a ∙ h
+
+  pub carried : {o : Outcome} → o ≡ verdict → accepted verdict ≡ true → (o ≡ verdict) × (true ≡ accepted verdict) × (grown p phase more ≡ taken verdict (grown p phase more) p)
+  carried e a = (e, sym a, rw a)
+
+  pub refused : {o : Outcome} → o ≡ verdict → accepted verdict ≡ false → (o ≡ verdict) × (false ≡ accepted verdict) × (p ≡ taken verdict (grown p phase more) p)
+  refused e a = (e, sym a, rw a)
+
 module _ (rooms : Rooms) (s : State) (c : Conditions) (phase : Phase) (more : Counts) where
   -- carried through: what it appends has room, and none of its own conditions holds
   pub fitting : accepted (judged rooms s c phase more) ≡ true → Within (grown (s .progress) phase more) rooms
-  fitting e = within (grown (s .progress) phase more) rooms (neither (c .room) _ (neither (stateConditions s rooms .room) _ (none-holds _ e .room) .1) .1)
+  fitting = fitting-by rooms (brokenLimits s) (s .progress) c phase more
 
   pub no-range : accepted (judged rooms s c phase more) ≡ true → c .range ≡ false
   no-range e = neither (stateConditions s rooms .range) (c .range) (none-holds _ e .range) .1
 
   pub no-sum : accepted (judged rooms s c phase more) ≡ true → c .sum ≡ false
   no-sum e = none-holds _ e .sum
-
-  -- the verdict, and the test of it
-  pub said : {o : Outcome} {t b : Bool} → o ≡ judged rooms s c phase more → t ≡ accepted o → t ≡ b → accepted (judged rooms s c phase more) ≡ b
-  said e a h = sym (ap accepted e) ∙ sym a ∙ h
-
-  pub carried : {o : Outcome} → o ≡ judged rooms s c phase more → accepted (judged rooms s c phase more) ≡ true
-      → (o ≡ judged rooms s c phase more) × (true ≡ accepted (judged rooms s c phase more)) × (grown (s .progress) phase more ≡ taken (judged rooms s c phase more) (grown (s .progress) phase more) (s .progress))
-  carried e a = (e, sym a, rw a)
-
-  pub refused : {o : Outcome} → o ≡ judged rooms s c phase more → accepted (judged rooms s c phase more) ≡ false
-      → (o ≡ judged rooms s c phase more) × (false ≡ accepted (judged rooms s c phase more)) × (s .progress ≡ taken (judged rooms s c phase more) (grown (s .progress) phase more) (s .progress))
-  refused e a = (e, sym a, rw a)

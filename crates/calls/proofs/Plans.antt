@@ -6,6 +6,8 @@ use mathlib.Core.Path.{_≡_, refl, sym, ap, _∙_, subst}
 use native.Mathlib.Omega.{arith}
 use lib.ListN.{length, getD}
 use Rattle.records.specs.Outcome.{accepted}
+use Rattle.records.specs.Check.{brokenLimits}
+use Rattle.records.specs.declared.check.Broken.{Broken}
 use Rattle.records.specs.declared.command.Command.{Command}
 use Rattle.records.specs.declared.command.Command.the-variants.{PopDebugGroup}
 use Rattle.records.specs.declared.outcome.Conditions.{Conditions}
@@ -15,7 +17,7 @@ use Rattle.records.specs.declared.state.Progress.{Progress}
 use Rattle.records.specs.declared.state.State.{State}
 use Rattle.records.specs.declared.check.Rooms.{Rooms}
 use Rattle.calls.specs.declared.judge.Counts.{Counts}
-use Rattle.calls.specs.Judge.{grown, judged, taken}
+use Rattle.calls.specs.Judge.{grown, judged, judgedBy, taken}
 use Rattle.pipeline.specs.Fixed.{only}
 use Rattle.calls.specs.Parts.{withProgress}
 use Rattle.calls.specs.Planned.{listRooms, commandsOnly, Put, Laid}
@@ -83,12 +85,14 @@ module _ (room : ℕ) (s : State) (c : Conditions) (phase : Phase) (cs : List Co
     pub here : at ≡ cond (accepted outcome) (s .progress .commands) 0
     pub many : n ≡ cond (accepted outcome) (length cs) 0
 
-  pub found : (rooms : Rooms) (k : ℕ) (more : Counts) {o : Outcome} (ok : Bool) {p : Progress} {at n : ℕ} → rooms ≡ listRooms room → k ≡ length cs → more ≡ commandsOnly k
-      → (o ≡ judged rooms s c phase more) × (ok ≡ accepted (judged rooms s c phase more)) × (p ≡ taken (judged rooms s c phase more) (grown (s .progress) phase more) (s .progress))
+  pub found : (rooms : Rooms) (b : Broken) (k : ℕ) (more : Counts) {o : Outcome} (ok : Bool) {p : Progress} {at n : ℕ}
+      → rooms ≡ listRooms room → b ≡ brokenLimits s → k ≡ length cs → more ≡ commandsOnly k
+      → (o ≡ judgedBy rooms b (s .progress) c phase more) × (ok ≡ accepted (judgedBy rooms b (s .progress) c phase more))
+          × (p ≡ taken (judgedBy rooms b (s .progress) c phase more) (grown (s .progress) phase more) (s .progress))
       → (at ≡ cond ok (s .progress .commands) 0) × (n ≡ cond ok k 0) → Found o ok p at n
-  found rooms k more ok r l m v w =
+  found rooms b k more ok r h l m v w =
       let e : more ≡ commandsOnly (length cs) = m ∙ ap commandsOnly l in
-      let same : judged rooms s c phase more ≡ outcome = rw (r, e) in
+      let same : judgedBy rooms b (s .progress) c phase more ≡ outcome = rw (r, h, e) in
       record {
         said = v .0 ∙ same;
         sure = v .1 ∙ ap accepted same;

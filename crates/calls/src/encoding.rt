@@ -15,9 +15,9 @@ use crate::phase::in_closed;
 use crate::phase::in_open;
 use crate::phase::in_phase;
 use crate::phase::in_render;
-use records::check::state_conditions;
+use records::check::broken_limits;
+use records::check::over_room;
 use records::outcome::Conditions;
-use records::outcome::either;
 use records::outcome::outcome_of;
 use records::pipeline::PrivateCapabilities;
 use records::state::Answer;
@@ -33,11 +33,17 @@ pub fn begin_encoding(caps: PrivateCapabilities, s: State) -> Answer
 {
     let p = s.progress;
     let phase = p.phase;
-    let c = in_phase(in_closed(phase));
-    let rooms = no_rooms();
-    let held = state_conditions(s, rooms);
-    let all = either(held, c);
-    let outcome = outcome_of(all);
+    let broken = broken_limits(s);
+    let c = Conditions {
+        phase: !in_closed(phase),
+        many: broken.many,
+        range: broken.range,
+        absent: false,
+        kind: broken.kind,
+        sum: false,
+        room: over_room(p, no_rooms()),
+    };
+    let outcome = outcome_of(c);
     if accepted(outcome) {
         let fresh = State::new();
         let open = Progress {
@@ -61,7 +67,8 @@ pub fn end_encoding(caps: PrivateCapabilities, s: State) -> Answer
     let c = in_phase(in_open(phase));
     let rooms = no_rooms();
     let more = nothing();
-    let v = judge(rooms, s, c, Phase::Closed, more);
+    let broken = broken_limits(s);
+    let v = judge(rooms, broken, p, c, Phase::Closed, more);
     let progress = v.progress;
     let outcome = v.outcome;
     let state = with_progress(s, progress);
@@ -80,24 +87,17 @@ fn bound_slot(ok: bool, v: VertexState, i: u32, raw: u32, offset: u64) -> Vertex
     }
     let at = i as usize;
     let slot = slot_at(v, i);
-    let attributes = v.attributes;
     let mut buffers = v.buffers;
     buffers[at] = VertexSlot {
         stride: slot.stride,
         raw,
         offset,
     };
-    VertexState {
-        described: v.described,
-        bound: mask::set(v.bound, i),
-        by_instance: v.by_instance,
-        dirty_vbuf_mask: mask::set(v.dirty_vbuf_mask, i),
-        buffers,
-        attribute_count: v.attribute_count,
-        active_first_instance: v.active_first_instance,
-        instance_vbuf_mask: v.instance_vbuf_mask,
-        attributes,
-    }
+    let mut next = v;
+    next.bound = mask::set(v.bound, i);
+    next.dirty_vbuf_mask = mask::set(v.dirty_vbuf_mask, i);
+    next.buffers = buffers;
+    next
 }
 
 pub fn set_vertex_buffer(
@@ -123,7 +123,8 @@ pub fn set_vertex_buffer(
     };
     let rooms = no_rooms();
     let more = nothing();
-    let v = judge(rooms, s, c, phase, more);
+    let broken = broken_limits(s);
+    let v = judge(rooms, broken, p, c, phase, more);
     let progress = v.progress;
     let outcome = v.outcome;
     let after = bound_slot(v.ok, vertex, index, buffer, offset);

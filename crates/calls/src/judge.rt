@@ -6,20 +6,19 @@ ghost use lib.Dec.{ltb};
 ghost use Rattle.records.specs.Check.{overRoom};
 ghost use Rattle.records.specs.Outcome.{accepted as acceptedOf};
 ghost use mathlib.Core.Bool.{cond};
-ghost use Rattle.calls.specs.Judge.{grown, judged, taken};
+ghost use Rattle.calls.specs.Judge.{grown, judgedBy, taken};
 ghost use Rattle.calls.specs.Planned.{listRooms, byteRooms, queryRooms, commandsOnly, noRooms, nothing as nothingOf};
+use records::check::Broken;
 use records::check::Rooms;
-use records::check::state_conditions;
+use records::check::over_room;
 use records::limits::MAX_BYTES;
 use records::limits::MAX_COMMANDS;
 use records::limits::MAX_QUERIES;
 use records::outcome::Conditions;
 use records::outcome::Outcome;
-use records::outcome::either;
 use records::outcome::outcome_of;
 use records::state::Phase;
 use records::state::Progress;
-use records::state::State;
 
 // How much a call appends to each run.
 pub struct Counts {
@@ -65,23 +64,28 @@ pub fn accepted(outcome: Outcome) -> bool
 }
 
 // The smallest number whose condition holds, of a call with conditions `c` that ends in `phase` and
-// appends `more`.
-fn outcome_for(rooms: Rooms, s: State, c: Conditions, phase: Phase, more: Counts) -> Outcome
-    ensures { λ r. ⌜ r ≡ judged rooms s c phase more ⌝ }
+// appends `more`. The state that it is handed breaks the limits `broken` and has the progress `p`.
+fn outcome_for(
+    rooms: Rooms,
+    broken: Broken,
+    p: Progress,
+    c: Conditions,
+    phase: Phase,
+    more: Counts,
+) -> Outcome
+    ensures { λ r. ⌜ r ≡ judgedBy rooms broken p c phase more ⌝ }
 {
-    let p = s.progress;
-    let held = state_conditions(s, rooms);
+    let full = over_room(p, rooms);
     let over = over_after(p, phase, more, rooms);
-    let call = Conditions {
+    let all = Conditions {
         phase: c.phase,
-        many: c.many,
-        range: c.range,
+        many: broken.many | c.many,
+        range: broken.range | c.range,
         absent: c.absent,
-        kind: c.kind,
+        kind: broken.kind | c.kind,
         sum: c.sum,
-        room: c.room | over,
+        room: full | (c.room | over),
     };
-    let all = either(held, call);
     outcome_of(all)
 }
 
@@ -91,11 +95,17 @@ pub struct Verdict {
     pub progress: Progress,
 }
 
-pub fn judge(rooms: Rooms, s: State, c: Conditions, phase: Phase, more: Counts) -> Verdict
-    ensures { λ r. ⌜ (r .outcome ≡ judged rooms s c phase more) × (r .ok ≡ acceptedOf (judged rooms s c phase more)) × (r .progress ≡ taken (judged rooms s c phase more) (grown (s .progress) phase more) (s .progress)) ⌝ }
+pub fn judge(
+    rooms: Rooms,
+    broken: Broken,
+    p: Progress,
+    c: Conditions,
+    phase: Phase,
+    more: Counts,
+) -> Verdict
+    ensures { λ r. ⌜ (r .outcome ≡ judgedBy rooms broken p c phase more) × (r .ok ≡ acceptedOf (judgedBy rooms broken p c phase more)) × (r .progress ≡ taken (judgedBy rooms broken p c phase more) (grown p phase more) p) ⌝ }
 {
-    let p = s.progress;
-    let outcome = outcome_for(rooms, s, c, phase, more);
+    let outcome = outcome_for(rooms, broken, p, c, phase, more);
     if accepted(outcome) {
         return Verdict {
             outcome,

@@ -13,139 +13,55 @@ use records::state::VertexState;
 pub fn with_progress(s: State, progress: Progress) -> State
     ensures { λ r. ⌜ r ≡ withProgress progress s ⌝ }
 {
-    let vertex = s.vertex;
-    let draw = s.draw;
-    let fixed = s.fixed;
-    let bind = s.bind;
-    let pass = s.pass;
-    let immediates = s.immediates;
-    State {
-        progress,
-        vertex,
-        draw,
-        fixed,
-        bind,
-        pass,
-        immediates,
-    }
+    let mut next = s;
+    next.progress = progress;
+    next
 }
 
 pub fn with_vertex(s: State, vertex: VertexState) -> State
     ensures { λ r. ⌜ r ≡ withVertex vertex s ⌝ }
 {
-    let progress = s.progress;
-    let draw = s.draw;
-    let fixed = s.fixed;
-    let bind = s.bind;
-    let pass = s.pass;
-    let immediates = s.immediates;
-    State {
-        progress,
-        vertex,
-        draw,
-        fixed,
-        bind,
-        pass,
-        immediates,
-    }
+    let mut next = s;
+    next.vertex = vertex;
+    next
 }
 
 pub fn with_draw(s: State, draw: DrawState) -> State
     ensures { λ r. ⌜ r ≡ withDraw draw s ⌝ }
 {
-    let progress = s.progress;
-    let vertex = s.vertex;
-    let fixed = s.fixed;
-    let bind = s.bind;
-    let pass = s.pass;
-    let immediates = s.immediates;
-    State {
-        progress,
-        vertex,
-        draw,
-        fixed,
-        bind,
-        pass,
-        immediates,
-    }
+    let mut next = s;
+    next.draw = draw;
+    next
 }
 
 pub fn with_fixed(s: State, fixed: FixedState) -> State
     ensures { λ r. ⌜ r ≡ withFixed fixed s ⌝ }
 {
-    let progress = s.progress;
-    let vertex = s.vertex;
-    let draw = s.draw;
-    let bind = s.bind;
-    let pass = s.pass;
-    let immediates = s.immediates;
-    State {
-        progress,
-        vertex,
-        draw,
-        fixed,
-        bind,
-        pass,
-        immediates,
-    }
+    let mut next = s;
+    next.fixed = fixed;
+    next
 }
 
 pub fn with_bind(s: State, bind: BindState) -> State
     ensures { λ r. ⌜ r ≡ withBind bind s ⌝ }
 {
-    let progress = s.progress;
-    let vertex = s.vertex;
-    let draw = s.draw;
-    let fixed = s.fixed;
-    let pass = s.pass;
-    let immediates = s.immediates;
-    State {
-        progress,
-        vertex,
-        draw,
-        fixed,
-        bind,
-        pass,
-        immediates,
-    }
+    let mut next = s;
+    next.bind = bind;
+    next
 }
 
 pub fn with_pass(s: State, pass: PassState) -> State
     ensures { λ r. ⌜ r ≡ withPass pass s ⌝ }
 {
-    let progress = s.progress;
-    let vertex = s.vertex;
-    let draw = s.draw;
-    let fixed = s.fixed;
-    let bind = s.bind;
-    let immediates = s.immediates;
-    State {
-        progress,
-        vertex,
-        draw,
-        fixed,
-        bind,
-        pass,
-        immediates,
-    }
+    let mut next = s;
+    next.pass = pass;
+    next
 }
 
 pub fn with_immediates(s: State, immediates: ImmediateState) -> State
     ensures { λ r. ⌜ r ≡ withImmediates immediates s ⌝ }
 {
-    let progress = s.progress;
-    let vertex = s.vertex;
-    let draw = s.draw;
-    let fixed = s.fixed;
-    let bind = s.bind;
-    let pass = s.pass;
-    State {
-        progress,
-        vertex,
-        draw,
-        fixed,
-        bind,
-        pass,
-        immediates,
-    }
+    let mut next = s;
+    next.immediates = immediates;
+    next
 }

@@ -44,7 +44,8 @@ fn resolve_at(s: PassState, k: u32) -> Command
     let at = k as usize;
     let n = within(s.resolve_count, MAX_COLOR_ATTACHMENTS);
     if at < n {
-        let r = s.resolves[at];
+        let resolves = s.resolves;
+        let r = resolves[at];
         let dst = r.dst;
         let size = s.render_size;
         Command::ResolveAttachment {
@@ -64,7 +65,8 @@ fn unset_at(s: PassState, v: VertexState, k: u32) -> Command
     let at = k as usize;
     let n = within(v.attribute_count, MAX_VERTEX_ATTRIBUTES);
     if at < n {
-        let a = v.attributes[at];
+        let attributes = v.attributes;
+        let a = attributes[at];
         Command::UnsetVertexAttribute(a.location)
     } else {
         let query = s.end_of_pass_timestamp;

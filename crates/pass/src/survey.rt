@@ -30,7 +30,8 @@ pub fn place_at(d: RenderPassDescriptor, i: u32) -> OptionColorAttachment
     let at = i as usize;
     let n = within(d.color_attachment_count, MAX_COLOR_ATTACHMENTS);
     if at < n {
-        let p = d.color_attachments[at];
+        let places = d.color_attachments;
+        let p = places[at];
         let attachment = p.attachment;
         attachment
     } else {

@@ -19,10 +19,6 @@ pub map-long : (p : PipelineInner) (vs : List Val) → Is (row the-inner) p vs �
 map-long p vs g = long _ (p .«sampler_map») 16 (g .1 .1 .1 .0 .1 .0 .1)
 
 -- field 3
-pub descs-long : (p : PipelineInner) (vs : List Val) → Is (row the-inner) p vs → length (p .«immediates_descs») ≡ 192
-descs-long p vs g = long _ (p .«immediates_descs») 192 (g .1 .1 .1 .1 .1 .0 .1 .0 .1)
-
--- field 3
 pub layouts-long : (p : RenderPipeline) (vs : List Val) → Is (row the-render) p vs → length (p .«vertex_buffers») ≡ 16
 layouts-long p vs g = long _ (p .«vertex_buffers») 16 (g .1 .1 .1 .1 .1 .0 .1 .0 .1)
 

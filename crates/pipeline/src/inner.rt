@@ -16,9 +16,8 @@ ghost use Rattle.pipeline.specs.Inner.{isSome, valueOr, mapAt, changedUn
 ghost use Rattle.pipeline.specs.Units.{numberIn, mappedUnit, mappedUnits};
 use bindings::units::number_at;
 use bindings::units::sampler_command;
-use records::check::within;
+use records::check::bad_descriptors;
 use records::command::Command;
-use records::command::ImmediateDesc;
 use records::command::OptionU32;
 use records::limits::MAX_IMMEDIATES_COMMANDS;
 use records::limits::MAX_TEXTURE_SLOTS;
@@ -35,7 +34,8 @@ pub fn map_at(p: PipelineInner, u: u32) -> OptionU32
 {
     if u < 16 {
         let at = u as usize;
-        let s = p.sampler_map[at];
+        let map = p.sampler_map;
+        let s = map[at];
         s.sampler_index
     } else {
         OptionU32::None
@@ -183,40 +183,31 @@ fn bad_numbers(p: PipelineInner) -> bool
 {
     let mut left: usize = MAX_TEXTURE_SLOTS;
     let mut bad = false;
+    let map = p.sampler_map;
     while 0 < left {
         left = left - 1;
-        let s = p.sampler_map[left];
+        let s = map[left];
         bad = bad_number(s) | bad;
     }
     bad
 }
 
 // A descriptor out of its words.
-fn bad_descriptor(d: ImmediateDesc) -> bool
-    ensures { λ r. ⌜ r ≡ badDescriptor d ⌝ }
-{
-    let end = (d.offset as u64) + (d.size_bytes as u64);
-    (d.offset % 4 != 0) | ((d.size_bytes % 4 != 0) | (256 < end))
-}
-
-fn bad_descriptors(p: PipelineInner) -> bool
+fn bad_words(p: PipelineInner) -> bool
     ensures { λ r. ⌜ r ≡ some? badDescriptor (innerDescriptors p) ⌝ }
 {
-    let mut left = within(p.immediates_count, MAX_IMMEDIATES_COMMANDS);
-    let mut bad = false;
-    while 0 < left {
-        left = left - 1;
-        let d = p.immediates_descs[left];
-        bad = bad_descriptor(d) | bad;
+    if p.immediates_count == 0 {
+        return false;
     }
-    bad
+    let descs = p.immediates_descs;
+    bad_descriptors(descs, p.immediates_count)
 }
 
 // Condition 3: a sampler number of 16 or more, or a descriptor out of its words.
 pub fn inner_out_of_range(p: PipelineInner) -> bool
     ensures { λ r. ⌜ r ≡ innerOutOfRange p ⌝ }
 {
-    bad_numbers(p) | bad_descriptors(p)
+    bad_numbers(p) | bad_words(p)
 }
 
 // How many commands `innerCommands` has, by the units whose sampler number changes.

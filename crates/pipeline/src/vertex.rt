@@ -89,11 +89,12 @@ fn changed_slots(
 {
     let mut slots: u32 = 0;
     let mut i: u32 = 0;
+    let buffers = v.buffers;
     while i < 16 {
         let at = i as usize;
         let layout = layouts[at];
         let new = counted_desc(layout, i, count);
-        let slot = v.buffers[at];
+        let slot = buffers[at];
         let there = mask::test(v.described, i);
         let old = slot_desc(slot, there, mask::test(v.by_instance, i));
         let differs = desc_changes(new, old);

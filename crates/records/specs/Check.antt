@@ -14,6 +14,7 @@ use Rattle.records.specs.declared.state.Progress.{Progress}
 use Rattle.records.specs.declared.state.ResolveDesc.{ResolveDesc}
 use Rattle.records.specs.declared.state.TextureSlotDesc.{TextureSlotDesc}
 use Rattle.records.specs.declared.state.State.{State}
+use Rattle.records.specs.declared.check.Broken.{Broken}
 use Rattle.records.specs.declared.check.Rooms.{Rooms}
 
 -- some element of the list has the property
@@ -97,14 +98,18 @@ overRoom p r =
     ltb 4096 (p .commands) || (ltb 65536 (p .bytes) || (ltb 1024 (p .queries)
     || (ltb (r .commands) (p .commands) || (ltb (r .bytes) (p .bytes) || ltb (r .queries) (p .queries)))))
 
+-- the limits that a state breaks, whatever the runs: 2, 3 and 5
+abbrev pub brokenLimits : State → Broken
+brokenLimits s = record { many = tooMany s; range = outOfRange s; kind = twice (locations (attributesOf s)) }
+
 abbrev pub stateConditions : State → Rooms → Conditions
 stateConditions s r =
     record {
       phase = false;
-      many = tooMany s;
-      range = outOfRange s;
+      many = brokenLimits s .many;
+      range = brokenLimits s .range;
       absent = false;
-      kind = twice (locations (attributesOf s));
+      kind = brokenLimits s .kind;
       sum = false;
       room = overRoom (s .progress) r;
     }

@@ -4,8 +4,8 @@ ghost use mathlib.Core.Path.{_≡_};
 ghost use mathlib.Core.Bool.{_||_};
 ghost use Prim.Native.Nat.{min};
 ghost use lib.ListN.{take};
-ghost use Rattle.records.specs.Check.{some?, badMask, tooMany as tooManyOf, badAttribute, badDescriptor, badResolve, badUnits, badMasks, overRoom, stateConditions};
-ghost use Rattle.records.specs.Scan.{scanOne, scanned};
+ghost use Rattle.records.specs.Check.{some?, badMask, tooMany as tooManyOf, badAttribute, badDescriptor, badResolve, badUnits, badMasks, overRoom, brokenLimits};
+ghost use Rattle.records.specs.Scan.{scanStart, scanOne, scanned};
 use crate::command::AttributeDesc;
 use crate::command::ImmediateDesc;
 use crate::limits::MAX_BYTES;
@@ -14,7 +14,6 @@ use crate::limits::MAX_COMMANDS;
 use crate::limits::MAX_IMMEDIATES_COMMANDS;
 use crate::limits::MAX_QUERIES;
 use crate::limits::MAX_VERTEX_ATTRIBUTES;
-use crate::outcome::Conditions;
 use crate::state::BindState;
 use crate::state::ImmediateState;
 use crate::state::PassState;
@@ -57,6 +56,18 @@ pub struct AttributeScan {
     pub twice: bool,
 }
 
+impl AttributeScan {
+    fn new() -> Self
+        ensures { λ r. ⌜ r ≡ scanStart ⌝ }
+    {
+        AttributeScan {
+            seen: 0,
+            bad: false,
+            twice: false,
+        }
+    }
+}
+
 fn scan_attribute(s: AttributeScan, a: AttributeDesc) -> AttributeScan
     ensures { λ r. ⌜ r ≡ scanOne s a ⌝ }
 {
@@ -69,21 +80,32 @@ fn scan_attribute(s: AttributeScan, a: AttributeDesc) -> AttributeScan
     }
 }
 
-fn scan_attributes(vertex: VertexState) -> AttributeScan
-    ensures { λ r. ⌜ r ≡ scanned (take (vertex .«attribute_count») (vertex .attributes)) ⌝ }
+fn scan_attributes(
+    attributes: [AttributeDesc; MAX_VERTEX_ATTRIBUTES],
+    count: usize,
+) -> AttributeScan
+    ensures { λ r. ⌜ r ≡ scanned (take count attributes) ⌝ }
 {
-    let mut left = within(vertex.attribute_count, MAX_VERTEX_ATTRIBUTES);
-    let mut scan = AttributeScan {
-        seen: 0,
-        bad: false,
-        twice: false,
-    };
+    let mut left = within(count, MAX_VERTEX_ATTRIBUTES);
+    let mut scan = AttributeScan::new();
     while 0 < left {
         left = left - 1;
-        let a = vertex.attributes[left];
+        let a = attributes[left];
         scan = scan_attribute(scan, a);
     }
     scan
+}
+
+// The attributes of the state. An array is taken into a local only where something is counted: the
+// copy costs more than the test.
+fn scan_vertex(vertex: VertexState) -> AttributeScan
+    ensures { λ r. ⌜ r ≡ scanned (take (vertex .«attribute_count») (vertex .attributes)) ⌝ }
+{
+    if vertex.attribute_count == 0 {
+        return AttributeScan::new();
+    }
+    let attributes = vertex.attributes;
+    scan_attributes(attributes, vertex.attribute_count)
 }
 
 fn bad_descriptor(d: ImmediateDesc) -> bool
@@ -93,17 +115,27 @@ fn bad_descriptor(d: ImmediateDesc) -> bool
     (d.offset % 4 != 0) | ((d.size_bytes % 4 != 0) | (256 < end))
 }
 
-fn bad_descriptors(immediates: ImmediateState) -> bool
-    ensures { λ r. ⌜ r ≡ some? badDescriptor (take (immediates .count) (immediates .descs)) ⌝ }
+pub fn bad_descriptors(descs: [ImmediateDesc; MAX_IMMEDIATES_COMMANDS], count: usize) -> bool
+    ensures { λ r. ⌜ r ≡ some? badDescriptor (take count descs) ⌝ }
 {
-    let mut left = within(immediates.count, MAX_IMMEDIATES_COMMANDS);
+    let mut left = within(count, MAX_IMMEDIATES_COMMANDS);
     let mut bad = false;
     while 0 < left {
         left = left - 1;
-        let d = immediates.descs[left];
+        let d = descs[left];
         bad = bad_descriptor(d) | bad;
     }
     bad
+}
+
+fn bad_immediates(immediates: ImmediateState) -> bool
+    ensures { λ r. ⌜ r ≡ some? badDescriptor (take (immediates .count) (immediates .descs)) ⌝ }
+{
+    if immediates.count == 0 {
+        return false;
+    }
+    let descs = immediates.descs;
+    bad_descriptors(descs, immediates.count)
 }
 
 fn bad_resolve(r: ResolveDesc) -> bool
@@ -112,17 +144,27 @@ fn bad_resolve(r: ResolveDesc) -> bool
     8 <= r.place
 }
 
-fn bad_resolves(pass: PassState) -> bool
-    ensures { λ r. ⌜ r ≡ some? badResolve (take (pass .«resolve_count») (pass .resolves)) ⌝ }
+fn bad_resolves(resolves: [ResolveDesc; MAX_COLOR_ATTACHMENTS], count: usize) -> bool
+    ensures { λ r. ⌜ r ≡ some? badResolve (take count resolves) ⌝ }
 {
-    let mut left = within(pass.resolve_count, MAX_COLOR_ATTACHMENTS);
+    let mut left = within(count, MAX_COLOR_ATTACHMENTS);
     let mut bad = false;
     while 0 < left {
         left = left - 1;
-        let r = pass.resolves[left];
+        let r = resolves[left];
         bad = bad_resolve(r) | bad;
     }
     bad
+}
+
+fn bad_pass(pass: PassState) -> bool
+    ensures { λ r. ⌜ r ≡ some? badResolve (take (pass .«resolve_count») (pass .resolves)) ⌝ }
+{
+    if pass.resolve_count == 0 {
+        return false;
+    }
+    let resolves = pass.resolves;
+    bad_resolves(resolves, pass.resolve_count)
 }
 
 fn bad_units(bind: BindState) -> bool
@@ -162,7 +204,7 @@ fn bad_masks(state: State) -> bool
                                 | (1024 <= state.pass.invalidate_attachments)))))))
 }
 
-fn over_room(p: Progress, r: Rooms) -> bool
+pub fn over_room(p: Progress, r: Rooms) -> bool
     ensures { λ b. ⌜ b ≡ overRoom p r ⌝ }
 {
     (MAX_COMMANDS < p.commands)
@@ -171,25 +213,26 @@ fn over_room(p: Progress, r: Rooms) -> bool
                 | ((r.commands < p.commands) | ((r.bytes < p.bytes) | (r.queries < p.queries)))))
 }
 
-// Which conditions hold of a handed-in state.
-pub fn state_conditions(state: State, rooms: Rooms) -> Conditions
-    ensures { λ r. ⌜ r ≡ stateConditions state rooms ⌝ }
+// Which limits a state breaks, the room aside: conditions 2, 3 and 5.
+pub struct Broken {
+    pub many: bool,
+    pub range: bool,
+    pub kind: bool,
+}
+
+// Which limits a handed-in state breaks.
+pub fn broken_limits(state: State) -> Broken
+    ensures { λ r. ⌜ r ≡ brokenLimits state ⌝ }
 {
-    let progress = state.progress;
     let vertex = state.vertex;
     let bind = state.bind;
     let pass = state.pass;
     let immediates = state.immediates;
-    let scan = scan_attributes(vertex);
-    Conditions {
-        phase: false,
+    let scan = scan_vertex(vertex);
+    Broken {
         many: too_many(state),
         range: scan.bad
-            | (bad_units(bind)
-                | (bad_descriptors(immediates) | (bad_resolves(pass) | bad_masks(state)))),
-        absent: false,
+            | (bad_units(bind) | (bad_immediates(immediates) | (bad_pass(pass) | bad_masks(state)))),
         kind: scan.twice,
-        sum: false,
-        room: over_room(progress, rooms),
     }
 }

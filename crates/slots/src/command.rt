@@ -97,7 +97,8 @@ fn attribute_at(v: VertexState, i: u32) -> AttributeDesc
     let at = i as usize;
     let n = at_most(v.attribute_count, MAX_VERTEX_ATTRIBUTES);
     if at < n {
-        v.attributes[at]
+        let attributes = v.attributes;
+        attributes[at]
     } else {
         AttributeDesc::new()
     }

@@ -49,7 +49,8 @@ pub fn slot_at(v: VertexState, i: u32) -> VertexSlot
 {
     if i < 16 {
         let at = i as usize;
-        v.buffers[at]
+        let buffers = v.buffers;
+        buffers[at]
     } else {
         VertexSlot::new()
     }

@@ -67,9 +67,10 @@ fn sweep_attributes(v: VertexState, w: u32) -> Sweep
         slots: 0,
         over: false,
     };
+    let attributes = v.attributes;
     while 0 < left {
         left = left - 1;
-        let a = v.attributes[left];
+        let a = attributes[left];
         sweep = sweep_attribute(m, v, w, sweep, a);
     }
     sweep
@@ -82,8 +83,9 @@ fn sent_attributes(v: VertexState, m: u32) -> u32
     let n = within(v.attribute_count, MAX_VERTEX_ATTRIBUTES);
     let mut sent: u32 = 0;
     let mut i: usize = 0;
+    let attributes = v.attributes;
     while i < n {
-        let a = v.attributes[i];
+        let a = attributes[i];
         let takes = mask::test(m, a.buffer_index);
         sent = mask::set_if(sent, i as u32, takes);
         i = i + 1;

@@ -18,8 +18,8 @@ with-units b ts = record { samplers = b .samplers; «sampler_set» = b .«sample
 mul-unit : tie.Need-mul-unit
 mul-unit c = search needs
 
-element-copy-out-unit : tie.Need-element-copy-out-unit
-element-copy-out-unit c = search needs
+array-copy-out-unit : tie.Need-array-copy-out-unit
+array-copy-out-unit c = search needs
 
 mul-named : tie.Need-mul-named
 mul-named c = search needs
@@ -33,11 +33,11 @@ returns c = search needs
 returns-2 : tie.Need-returns-2
 returns-2 c =
     let s = c .before in
-    let b = s .args .t1 in
+    let b = s .args .b in
     let h : length (b .«texture_slots») ≤ s .args .slot = omega (arith, units-long b _ (s .good .0)) in
     ap (with-units b) (sym (set-out (b .«texture_slots») (s .args .slot) _ h))
 
 pub texture-state-spec : {M : Type 1} → statement M
 texture-state-spec =
     tie.close
-    (tie.spec mul-unit element-copy-out-unit mul-named element-set-from-named returns returns-2)
+    (tie.spec mul-unit array-copy-out-unit mul-named element-set-from-named returns returns-2)

@@ -27,19 +27,19 @@ within-requires c κs = search needs
 mul-result : tie.Need-mul-result
 mul-result c = search needs
 
-element-copy-out-result : tie.Need-element-copy-out-result
-element-copy-out-result c = search needs
+array-copy-out-result : tie.Need-array-copy-out-result
+array-copy-out-result c = search needs
 
 returns : tie.Need-returns
-returns c = let a = c .before .before .before .args in rw (lt-ltb (a .i) (a .t1 .«group_count») (omega arith))
+returns c = let a = c .before .before .before .before .args in rw (lt-ltb (a .i) (a .l .«group_count») (omega arith))
 
 returns-2 : tie.Need-returns-2
 returns-2 c =
     let s = c .before .before in
     let a = s .args in
-    let h : min (a .t1 .«group_count») 8 ≤ a .i = omega arith in
-    absent (a .t1 .groups) (a .t1 .«group_count») (a .i) (groups-long (a .t1) _ (s .good .0)) h
+    let h : min (a .l .«group_count») 8 ≤ a .i = omega arith in
+    absent (a .l .groups) (a .l .«group_count») (a .i) (groups-long (a .l) _ (s .good .0)) h
 
 pub group-at-spec : {M : Type 1} → statement M
 group-at-spec =
-    tie.close (tie.spec within-requires mul-result element-copy-out-result returns returns-2)
+    tie.close (tie.spec within-requires mul-result array-copy-out-result returns returns-2)

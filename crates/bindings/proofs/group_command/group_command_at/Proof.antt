@@ -22,17 +22,17 @@ use Rattle.bindings.proofs.group_command.group_command_at.Statement.{st
 use Rattle.bindings.proofs.group_command.group_command_at.Tie as tie
 
 abbrev Inv-loop : tie.InvT-loop
-Inv-loop offsets count i k e g n left₀ used₀ j₀ left used j =
+Inv-loop offsets count i k n left₀ used₀ j₀ entries contents left used j =
     (j ≤ n)
     × (n ≤ 64)
     × (used ≤ j)
-    × (groupOver (cut n (e .entries) (g .contents)) (take count offsets) ≡ false
-    → groupOver (drop j (cut n (e .entries) (g .contents))) (drop used (take count offsets)) ≡ false)
-    × ((c : Command) → Stands c left (groupCommands (drop j (cut n (e .entries) (g .contents))) (drop used (take count offsets)))
-    → Stands c k (groupCommands (cut n (e .entries) (g .contents)) (take count offsets)))
+    × (groupOver (cut n entries contents) (take count offsets) ≡ false
+    → groupOver (drop j (cut n entries contents)) (drop used (take count offsets)) ≡ false)
+    × ((c : Command) → Stands c left (groupCommands (drop j (cut n entries contents)) (drop used (take count offsets)))
+    → Stands c k (groupCommands (cut n entries contents) (take count offsets)))
 
 abbrev μ-loop : tie.MeasureT-loop
-μ-loop offsets count i k e g n left₀ used₀ j₀ left used j = n - j
+μ-loop offsets count i k n left₀ used₀ j₀ entries contents left used j = n - j
 
 group-at-requires : tie.Need-group-at-requires Inv-loop μ-loop
 group-at-requires c κs = search needs
@@ -46,14 +46,14 @@ loop-holds c = (omega arith, omega arith, omega arith, λ o. o, λ c s. s)
 mul-entry : tie.Need-mul-entry Inv-loop μ-loop
 mul-entry c = omega arith
 
-element-copy-out-entry : tie.Need-element-copy-out-entry Inv-loop μ-loop
-element-copy-out-entry c = omega arith
+array-copy-out-entry : tie.Need-array-copy-out-entry Inv-loop μ-loop
+array-copy-out-entry c = omega arith
 
 mul-content : tie.Need-mul-content Inv-loop μ-loop
 mul-content c = omega arith
 
-element-copy-out-content : tie.Need-element-copy-out-content Inv-loop μ-loop
-element-copy-out-content c = omega arith
+array-copy-out-content : tie.Need-array-copy-out-content Inv-loop μ-loop
+array-copy-out-content c = omega arith
 
 records-one-requires : tie.Need-records-one-requires Inv-loop μ-loop
 records-one-requires c κs = search needs
@@ -70,15 +70,15 @@ entry-command-requires c κs = search needs
 returns : tie.Need-returns Inv-loop μ-loop
 returns c =
     let b = c .before .before .before .before .before .before .before .before in
-    let st = b .before .before .before .before in
+    let st = b .before .before .before .before .before .before in
     let a = st .args in
     let l = b .loop in
     let os = take (a .count) (a .offsets .now) in
-    let n = b .before .reached .result in
-    let es = a .t5 .entries in
-    let cs = a .t6 .contents in
-    let le = entries-long (a .t5) _ (st .good .1 .1 .1 .1 .0) in
-    let lc = contents-long (a .t6) _ (st .good .1 .1 .1 .1 .1 .0) in
+    let n = b .before .before .before .reached .result in
+    let es = a .e .entries in
+    let cs = a .g .contents in
+    let le = entries-long (a .e) _ (st .good .1 .1 .1 .1 .0) in
+    let lc = contents-long (a .g) _ (st .good .1 .1 .1 .1 .1 .0) in
     let h : l .j < n = omega arith in
     let r = c .entry-command .result in
     let layout = getD es (l .j) noEntry in
@@ -86,8 +86,8 @@ returns c =
     let one = c .before .before .before in
     let t : l .left < digitOf (recordsOne raw) =
     subst (λ (m : ℕ). l .left < m) (one .one-if .ensures .0 ∙ ap digitOf (one .before .records-one .ensures)) (c .before .before .if1 .taken) in
-    let shape = b .before .before .group-at in
-    let k = reached-cut (a .l) (a .i) (a .t5) (a .t6) le lc (shape .result) n (shape .ensures) (b .before .reached .ensures) in
+    let shape = b .before .before .before .before .group-at in
+    let k = reached-cut (a .l) (a .i) (a .e) (a .g) le lc (shape .result) n (shape .ensures) (b .before .before .before .reached .ensures) in
     λ o.
     let f = over-step es cs le lc n (l .j) (l .used) os h (l .inv .1) (l .inv .3 (ap (λ (xs : List Entry). groupOver xs os) (sym k) ∙ o)) in
     let s : Stands r 0 (entryCommands layout raw (headOr 0 (drop (l .used) os) ∷ [])) =
@@ -114,15 +114,15 @@ loop-less c = omega arith
 loop-again : tie.Need-loop-again Inv-loop μ-loop
 loop-again c =
     let b = c .before .before .before .before .before .before .before .before in
-    let st = b .before .before .before .before in
+    let st = b .before .before .before .before .before .before in
     let a = st .args in
     let l = b .loop in
     let os = take (a .count) (a .offsets .now) in
-    let n = b .before .reached .result in
-    let es = a .t5 .entries in
-    let cs = a .t6 .contents in
-    let le = entries-long (a .t5) _ (st .good .1 .1 .1 .1 .0) in
-    let lc = contents-long (a .t6) _ (st .good .1 .1 .1 .1 .1 .0) in
+    let n = b .before .before .before .reached .result in
+    let es = a .e .entries in
+    let cs = a .g .contents in
+    let le = entries-long (a .e) _ (st .good .1 .1 .1 .1 .0) in
+    let lc = contents-long (a .g) _ (st .good .1 .1 .1 .1 .1 .0) in
     let p : l .j + 1 ≡ suc (l .j) = omega arith in
     let h : l .j < n = omega arith in
     let layout = getD es (l .j) noEntry in
@@ -142,18 +142,18 @@ returns-2 : tie.Need-returns-2 Inv-loop μ-loop
 unfolding groupCommands
 returns-2 c =
     let b = c .before in
-    let st = b .before .before .before .before in
+    let st = b .before .before .before .before .before .before in
     let a = st .args in
     let l = b .loop in
     let os = take (a .count) (a .offsets .now) in
-    let n = b .before .reached .result in
-    let es = a .t5 .entries in
-    let cs = a .t6 .contents in
-    let le = entries-long (a .t5) _ (st .good .1 .1 .1 .1 .0) in
-    let lc = contents-long (a .t6) _ (st .good .1 .1 .1 .1 .1 .0) in
+    let n = b .before .before .before .reached .result in
+    let es = a .e .entries in
+    let cs = a .g .contents in
+    let le = entries-long (a .e) _ (st .good .1 .1 .1 .1 .0) in
+    let lc = contents-long (a .g) _ (st .good .1 .1 .1 .1 .1 .0) in
     let h : n ≤ l .j = omega arith in
-    let shape = b .before .before .group-at in
-    let k = reached-cut (a .l) (a .i) (a .t5) (a .t6) le lc (shape .result) n (shape .ensures) (b .before .reached .ensures) in
+    let shape = b .before .before .before .before .group-at in
+    let k = reached-cut (a .l) (a .i) (a .e) (a .g) le lc (shape .result) n (shape .ensures) (b .before .before .before .reached .ensures) in
     λ o.
     subst (λ (xs : List Entry). Stands PopDebugGroup (a .k) (groupCommands xs os)) (sym k)
     (l .inv .4 PopDebugGroup
@@ -170,9 +170,9 @@ group-command-at-spec =
     reached-requires
     loop-holds
     mul-entry
-    element-copy-out-entry
+    array-copy-out-entry
     mul-content
-    element-copy-out-content
+    array-copy-out-content
     records-one-requires
     one-if-requires
     offset-at-requires

@@ -19,8 +19,8 @@ add-at c = search needs
 mul-byte-at : tie.Need-mul-byte-at
 mul-byte-at c = search needs
 
-element-copy-out-byte-at : tie.Need-element-copy-out-byte-at
-element-copy-out-byte-at c = search needs
+array-read-byte-at : tie.Need-array-read-byte-at
+array-read-byte-at c = search needs
 
 byte-at-requires : tie.Need-byte-at-requires
 byte-at-requires c κs = search needs
@@ -35,8 +35,8 @@ returns-2 : tie.Need-returns-2
 returns-2 c =
     let st = c .before .before .before in
     let a = st .args in
-    let h : length (a .t1 .words) ≤ a .d .offset / 4 + a .j / 4 = omega (arith, words-long (a .t1) _ (st .good .0)) in
-    rw (c .byte-at2 .ensures, List·getD-eq-default (a .t1 .words) 0 {n = a .d .offset / 4 + a .j / 4} h)
+    let h : length (a .i .words) ≤ a .d .offset / 4 + a .j / 4 = omega (arith, words-long (a .i) _ (st .good .0)) in
+    rw (c .byte-at2 .ensures, List·getD-eq-default (a .i .words) 0 {n = a .d .offset / 4 + a .j / 4} h)
 
 pub descriptor-byte-spec : {M : Type 1} → statement M
 descriptor-byte-spec =
@@ -46,7 +46,7 @@ descriptor-byte-spec =
     cast-at-2
     add-at
     mul-byte-at
-    element-copy-out-byte-at
+    array-read-byte-at
     byte-at-requires
     byte-at-requires-2
     returns

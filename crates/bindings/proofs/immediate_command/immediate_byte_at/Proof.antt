@@ -20,14 +20,14 @@ use Rattle.bindings.proofs.immediate_command.immediate_byte_at.Statemen
 use Rattle.bindings.proofs.immediate_command.immediate_byte_at.Tie as tie
 
 abbrev Inv-loop : tie.InvT-loop
-Inv-loop k i n left₀ j₀ left j =
+Inv-loop i k n left₀ j₀ descs left j =
     (j ≤ n)
     × (some? badDescriptor (descriptorsOf i) ≡ false
     → (some? badDescriptor (drop j (descriptorsOf i)) ≡ false)
     × ((c : ℕ) → Stands c left (immediateBytes (i .words) (drop j (descriptorsOf i))) → Stands c k (immediateBytes (i .words) (descriptorsOf i))))
 
 abbrev μ-loop : tie.MeasureT-loop
-μ-loop k i n left₀ j₀ left j = n - j
+μ-loop i k n left₀ j₀ descs left j = n - j
 
 within-requires : tie.Need-within-requires Inv-loop μ-loop
 within-requires c κs = search needs
@@ -38,8 +38,8 @@ loop-holds c = (omega arith, λ g. (g, λ c s. s))
 mul-d : tie.Need-mul-d Inv-loop μ-loop
 mul-d c = omega arith
 
-element-copy-out-d : tie.Need-element-copy-out-d Inv-loop μ-loop
-element-copy-out-d c = omega arith
+array-copy-out-d : tie.Need-array-copy-out-d Inv-loop μ-loop
+array-copy-out-d c = omega arith
 
 descriptor-byte-requires : tie.Need-descriptor-byte-requires Inv-loop μ-loop
 descriptor-byte-requires c κs = search needs
@@ -47,12 +47,12 @@ descriptor-byte-requires c κs = search needs
 returns : tie.Need-returns Inv-loop μ-loop
 returns c =
     let b = c .before .before .before .before .before in
-    let st = b .before .before in
-    let i = st .args .t1 in
+    let st = b .before .before .before in
+    let i = st .args .i in
     let l = b .loop in
     let w = words-long i _ (st .good .0) in
     let e = descs-long i _ (st .good .0) in
-    let h : l .j < min (i .count) 192 = omega (arith, b .before .within .ensures) in
+    let h : l .j < min (i .count) 192 = omega (arith, b .before .before .within .ensures) in
     λ g.
     let q = l .inv .1 g in
     subst (λ (x : ℕ). Stands x (st .args .k) (immediateBytes (i .words) (descriptorsOf i))) (sym (c .descriptor-byte .ensures))
@@ -68,12 +68,12 @@ loop-less c = omega arith
 loop-again : tie.Need-loop-again Inv-loop μ-loop
 loop-again c =
     let b = c .before .before .before .before .before in
-    let st = b .before .before in
-    let i = st .args .t1 in
+    let st = b .before .before .before in
+    let i = st .args .i in
     let l = b .loop in
     let w = words-long i _ (st .good .0) in
     let e = descs-long i _ (st .good .0) in
-    let h : l .j < min (i .count) 192 = omega (arith, b .before .within .ensures) in
+    let h : l .j < min (i .count) 192 = omega (arith, b .before .before .within .ensures) in
     let p : l .j + 1 ≡ suc (l .j) = omega arith in (
       omega arith,
       λ g.
@@ -87,11 +87,11 @@ returns-2 : tie.Need-returns-2 Inv-loop μ-loop
 unfolding immediateBytes
 returns-2 c =
     let b = c .before in
-    let st = b .before .before in
-    let i = st .args .t1 in
+    let st = b .before .before .before in
+    let i = st .args .i in
     let l = b .loop in
     let e = descs-long i _ (st .good .0) in
-    let h : length (descriptorsOf i) ≤ l .j = omega (arith, b .before .within .ensures, counted-long (i .descs) (i .count) e) in
+    let h : length (descriptorsOf i) ≤ l .j = omega (arith, b .before .before .within .ensures, counted-long (i .descs) (i .count) e) in
     λ g.
     l .inv .1 g .1 0
     (subst (λ (ds : List ImmediateDesc). Stands 0 (l .left) (immediateBytes (i .words) ds))
@@ -106,7 +106,7 @@ immediate-byte-at-spec =
     within-requires
     loop-holds
     mul-d
-    element-copy-out-d
+    array-copy-out-d
     descriptor-byte-requires
     returns
     add-j

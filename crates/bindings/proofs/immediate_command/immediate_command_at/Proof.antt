@@ -21,32 +21,32 @@ within-requires c κs = search needs
 mul-d : tie.Need-mul-d
 mul-d c = search needs
 
-element-copy-out-d : tie.Need-element-copy-out-d
-element-copy-out-d c = search needs
+array-copy-out-d : tie.Need-array-copy-out-d
+array-copy-out-d c = search needs
 
-mul-t12 : tie.Need-mul-t12
-mul-t12 c = search needs
+mul-t11 : tie.Need-mul-t11
+mul-t11 c = search needs
 
-element-copy-out-t18 : tie.Need-element-copy-out-t18
-element-copy-out-t18 c = search needs
+array-read-t17 : tie.Need-array-read-t17
+array-read-t17 c = search needs
 
 returns : tie.Need-returns
 returns c =
-    let st = c .before .before .before .before in
-    let i = st .args .t1 in
+    let st = c .before .before .before .before .before in
+    let i = st .args .i in
     let k = st .args .k in
     let ds = descriptorsOf i in
     let e = descs-long i _ (st .good .0) in
-    let h : k < min (i .count) 192 = omega (arith, c .before .before .before .within .ensures) in
+    let h : k < min (i .count) 192 = omega (arith, c .before .before .before .before .within .ensures) in
     let n : k < length ds = omega (arith, counted-long (i .descs) (i .count) e) in
     λ at q m d.
-    ap₂ SetImmediates (sym (counted-at (i .descs) (i .count) e k h)) (sym (getD-take (length ds) (st .args .t2 .at) k 0 n) ∙ ap (λ (xs : List ℕ). getD xs k 0) q)
+    ap₂ SetImmediates (sym (counted-at (i .descs) (i .count) e k h)) (sym (getD-take (length ds) (st .args .placed .at) k 0 n) ∙ ap (λ (xs : List ℕ). getD xs k 0) q)
     ∙ sym (placed-command ds at k startImmediate d n)
 
 returns-2 : tie.Need-returns-2
 returns-2 c =
     let st = c .before .before in
-    let i = st .args .t1 in
+    let i = st .args .i in
     let e = counted-long (i .descs) (i .count) (descs-long i _ (st .good .0)) in
     λ at q m d. absurd (omega (arith, m, e, commands-long (descriptorsOf i) at, c .before .within .ensures))
 
@@ -56,8 +56,8 @@ immediate-command-at-spec =
     (tie.spec
     within-requires
     mul-d
-    element-copy-out-d
-    mul-t12
-    element-copy-out-t18
+    array-copy-out-d
+    mul-t11
+    array-read-t17
     returns
     returns-2)

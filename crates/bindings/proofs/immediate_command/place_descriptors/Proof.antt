@@ -17,15 +17,15 @@ use Rattle.bindings.proofs.immediate_command.place_descriptors.Statemen
 use Rattle.bindings.proofs.immediate_command.place_descriptors.Tie as tie
 
 abbrev Inv-loop : tie.InvT-loop
-Inv-loop at i first n p₀ j₀ p j =
+Inv-loop at first n p₀ j₀ descs p j =
     (j ≤ n)
     × (p .total ≤ 256 * j)
     × (length (p .at) ≡ 192)
-    × (some? badDescriptor (descriptorsOf i) ≡ false
-    → (take j (p .at) ≡ placesOf (take j (descriptorsOf i)) first) × (p .total ≡ sizeOf (take j (descriptorsOf i))))
+    × ((count : ℕ) → n ≡ min count 192 → some? badDescriptor (take count descs) ≡ false
+    → (take j (p .at) ≡ placesOf (take j (take count descs)) first) × (p .total ≡ sizeOf (take j (take count descs))))
 
 abbrev μ-loop : tie.MeasureT-loop
-μ-loop at i first n p₀ j₀ p j = n - j
+μ-loop at first n p₀ j₀ descs p j = n - j
 
 at-most-requires : tie.Need-at-most-requires Inv-loop μ-loop
 at-most-requires c κs = search needs
@@ -35,13 +35,13 @@ within-requires c κs = search needs
 
 loop-holds : tie.Need-loop-holds Inv-loop μ-loop
 unfolding placesOf sizeOf
-loop-holds c = (omega arith, omega arith, refl, λ g. (refl, refl))
+loop-holds c = (omega arith, omega arith, refl, λ count m g. (refl, refl))
 
 mul-d : tie.Need-mul-d Inv-loop μ-loop
 mul-d c = omega arith
 
-element-copy-out-d : tie.Need-element-copy-out-d Inv-loop μ-loop
-element-copy-out-d c = omega arith
+array-copy-out-d : tie.Need-array-copy-out-d Inv-loop μ-loop
+array-copy-out-d c = omega arith
 
 add-p : tie.Need-add-p Inv-loop μ-loop
 add-p c = omega arith
@@ -67,36 +67,36 @@ loop-less c = omega arith
 loop-again : tie.Need-loop-again Inv-loop μ-loop
 loop-again c =
     let b = c .before .before .before in
-    let st = b .before .before .before in
-    let i = st .args .t1 in
+    let st = b .before .before .before .before in
+    let i = st .args .i in
     let l = b .loop in
-    let first = b .before .before .at-most .result in
+    let first = b .before .before .before .at-most .result in
     let e = descs-long i _ (st .good .0) in
-    let h : l .j < min (i .count) 192 = omega (arith, b .before .within .ensures) in
     let p : l .j + 1 ≡ suc (l .j) = omega arith in (
       omega arith,
       omega (arith, c .at-most2 .ensures),
       length-set (l .p .at) (l .j) (first + l .p .total) ∙ l .inv .2,
-      λ g.
-          let q = l .inv .3 g in
-          rw p (place-step (i .descs) (i .count) e (l .j) first (l .p .total) (c .at-most2 .result) (l .p .at) h (l .inv .2) (c .at-most2 .ensures) g (q .0) (q .1)),
+      λ count m g.
+          let h : l .j < min count 192 = omega (arith, m) in
+          let q = l .inv .3 count m g in
+          rw p (place-step (i .descs) count e (l .j) first (l .p .total) (c .at-most2 .result) (l .p .at) h (l .inv .2) (c .at-most2 .ensures) g (q .0) (q .1)),
     )
 
 returns : tie.Need-returns Inv-loop μ-loop
 returns c =
     let b = c .before in
-    let st = b .before .before .before in
+    let st = b .before .before .before .before in
     let a = st .args in
-    let i = a .t1 in
+    let i = a .i in
     let l = b .loop in
     let ds = descriptorsOf i in
     let e = counted-long (i .descs) (i .count) (descs-long i _ (st .good .0)) in
-    let n : length ds ≡ l .j = omega (arith, b .before .within .ensures) in (
+    let n : length ds ≡ l .j = omega (arith, b .before .before .within .ensures) in (
       omega arith,
       λ g h.
-          let q = l .inv .3 g in
+          let q = l .inv .3 (i .count) (b .before .before .within .ensures) g in
           let t : take (l .j) ds ≡ ds = take-all (l .j) ds (omega arith) in
-          let f : b .before .before .at-most .result ≡ a .at = omega (arith, b .before .before .at-most .ensures) in (
+          let f : b .before .before .before .at-most .result ≡ a .at = omega (arith, b .before .before .before .at-most .ensures) in (
             rw n (q .0 ∙ ap₂ (λ (xs : List ImmediateDesc) (k : ℕ). placesOf xs k) t f),
             λ ws w. q .1 ∙ ap sizeOf t ∙ sym (bytes-size ws ds w g),
           ),
@@ -112,7 +112,7 @@ place-descriptors-spec =
     within-requires
     loop-holds
     mul-d
-    element-copy-out-d
+    array-copy-out-d
     add-p
     mul-p
     element-write-p

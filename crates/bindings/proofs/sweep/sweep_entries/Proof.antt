@@ -17,16 +17,16 @@ use Rattle.bindings.proofs.sweep.sweep_entries.Statement.{statement}
 use Rattle.bindings.proofs.sweep.sweep_entries.Tie as tie
 
 abbrev Inv-loop : tie.InvT-loop
-Inv-loop offsets count i e g n sweep₀ j₀ sweep j =
+Inv-loop offsets count i n sweep₀ j₀ entries contents sweep j =
     (j ≤ n)
     × (n ≤ 64)
     × (sweep .count ≤ j)
     × (sweep .used ≤ j)
-    × (swept (drop j (cut n (e .entries) (g .contents))) (drop (sweep .used) (take count offsets)) sweep
-    ≡ swept (cut n (e .entries) (g .contents)) (take count offsets) sweep₀)
+    × (swept (drop j (cut n entries contents)) (drop (sweep .used) (take count offsets)) sweep
+    ≡ swept (cut n entries contents) (take count offsets) sweep₀)
 
 abbrev μ-loop : tie.MeasureT-loop
-μ-loop offsets count i e g n sweep₀ j₀ sweep j = n - j
+μ-loop offsets count i n sweep₀ j₀ entries contents sweep j = n - j
 
 group-at-requires : tie.Need-group-at-requires Inv-loop μ-loop
 group-at-requires c κs = search needs
@@ -40,14 +40,14 @@ loop-holds c = (omega arith, omega arith, omega arith, omega arith, refl)
 mul-entry : tie.Need-mul-entry Inv-loop μ-loop
 mul-entry c = omega arith
 
-element-copy-out-entry : tie.Need-element-copy-out-entry Inv-loop μ-loop
-element-copy-out-entry c = omega arith
+array-copy-out-entry : tie.Need-array-copy-out-entry Inv-loop μ-loop
+array-copy-out-entry c = omega arith
 
 mul-content : tie.Need-mul-content Inv-loop μ-loop
 mul-content c = omega arith
 
-element-copy-out-content : tie.Need-element-copy-out-content Inv-loop μ-loop
-element-copy-out-content c = omega arith
+array-copy-out-content : tie.Need-array-copy-out-content Inv-loop μ-loop
+array-copy-out-content c = omega arith
 
 none-left-requires : tie.Need-none-left-requires Inv-loop μ-loop
 none-left-requires c κs = search needs
@@ -67,19 +67,19 @@ loop-less c = omega arith
 loop-again : tie.Need-loop-again Inv-loop μ-loop
 loop-again c =
     let b = c .before .before .before .before .before .before in
-    let st = b .before .before .before .before in
+    let st = b .before .before .before .before .before .before in
     let a = st .args in
     let l = b .loop in
     let os = take (a .count) (a .offsets .now) in
-    let n = b .before .reached .result in
-    let le = entries-long (a .t5) _ (st .good .1 .1 .1 .1 .0) in
-    let lc = contents-long (a .t6) _ (st .good .1 .1 .1 .1 .1 .0) in
+    let n = b .before .before .before .reached .result in
+    let le = entries-long (a .e) _ (st .good .1 .1 .1 .1 .0) in
+    let lc = contents-long (a .g) _ (st .good .1 .1 .1 .1 .1 .0) in
     let none = c .before .before .none-left in
     let next = c .before .offset-at in
     let p : l .j + 1 ≡ suc (l .j) = omega arith in
     let h : l .j < n = c .before .before .before .before .before .loop-test .taken in
-    let e = getD (a .t5 .entries) (l .j) noEntry in
-    let r = getD (a .t6 .contents) (l .j) noContent .binding in
+    let e = getD (a .e .entries) (l .j) noEntry in
+    let r = getD (a .g .contents) (l .j) noContent .binding in
     let q : c .sweep-entry .result ≡ sweepOne e r (none .result) (next .result) (l .sweep) = c .sweep-entry .ensures in
     let k : c .sweep-entry .result .count ≡ l .sweep .count + digitOf (recordsOne r) = ap (λ (s : Sweep). s .count) q in
     let u : c .sweep-entry .result .used ≡ l .sweep .used + digitOf (takesOffset e r) = ap (λ (s : Sweep). s .used) q in (
@@ -88,7 +88,7 @@ loop-again c =
       omega (arith, k, digit-le (recordsOne r)),
       omega (arith, u, digit-le (takesOffset e r)),
       rw p
-          (sweep-step (a .t5 .entries) (a .t6 .contents) le lc n (l .j) os (l .sweep) (c .sweep-entry .result) (none .result) (next .result)
+          (sweep-step (a .e .entries) (a .g .contents) le lc n (l .j) os (l .sweep) (c .sweep-entry .result) (none .result) (next .result)
           h (l .inv .1) (none .ensures) (next .ensures) q
           ∙ l .inv .4),
     )
@@ -97,19 +97,19 @@ returns : tie.Need-returns Inv-loop μ-loop
 unfolding swept
 returns c =
     let b = c .before in
-    let st = b .before .before .before .before in
+    let st = b .before .before .before .before .before .before in
     let a = st .args in
     let l = b .loop in
     let os = take (a .count) (a .offsets .now) in
-    let n = b .before .reached .result in
-    let es = a .t5 .entries in
-    let cs = a .t6 .contents in
-    let le = entries-long (a .t5) _ (st .good .1 .1 .1 .1 .0) in
-    let lc = contents-long (a .t6) _ (st .good .1 .1 .1 .1 .1 .0) in
+    let n = b .before .before .before .reached .result in
+    let es = a .e .entries in
+    let cs = a .g .contents in
+    let le = entries-long (a .e) _ (st .good .1 .1 .1 .1 .0) in
+    let lc = contents-long (a .g) _ (st .good .1 .1 .1 .1 .1 .0) in
     let h : n ≤ l .j = omega arith in
-    let shape = b .before .before .group-at in
-    let k = reached-cut (a .l) (a .i) (a .t5) (a .t6) le lc (shape .result) n (shape .ensures) (b .before .reached .ensures) in
-    found (entriesOf (a .l) (a .i) (a .t5) (a .t6)) os (a .b) (l .sweep)
+    let shape = b .before .before .before .before .group-at in
+    let k = reached-cut (a .l) (a .i) (a .e) (a .g) le lc (shape .result) n (shape .ensures) (b .before .before .before .reached .ensures) in
+    found (entriesOf (a .l) (a .i) (a .e) (a .g)) os (a .b) (l .sweep)
     (sym (ap (λ (xs : List Entry). swept xs (drop (l .sweep .used) os) (l .sweep)) (entry-end es cs le lc n (l .j) h))
     ∙ l .inv .4
     ∙ ap (λ (xs : List Entry). swept xs os (start (a .b))) (sym k))
@@ -124,9 +124,9 @@ sweep-entries-spec =
     reached-requires
     loop-holds
     mul-entry
-    element-copy-out-entry
+    array-copy-out-entry
     mul-content
-    element-copy-out-content
+    array-copy-out-content
     none-left-requires
     offset-at-requires
     sweep-entry-requires

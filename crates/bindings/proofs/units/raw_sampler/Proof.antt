@@ -11,8 +11,8 @@ use Rattle.bindings.proofs.units.raw_sampler.Tie as tie
 mul-result : tie.Need-mul-result
 mul-result c = search needs
 
-element-copy-out-result : tie.Need-element-copy-out-result
-element-copy-out-result c = search needs
+array-read-result : tie.Need-array-read-result
+array-read-result c = search needs
 
 returns : tie.Need-returns
 returns c = search needs
@@ -20,9 +20,9 @@ returns c = search needs
 returns-2 : tie.Need-returns-2
 returns-2 c =
     let s = c .before in
-    let b = s .args .t1 in
+    let b = s .args .b in
     let k : length (b .samplers) ≤ s .args .k = omega (arith, samplers-long b _ (s .good .0)) in
     sym (List·getD-eq-default (b .samplers) 0 {n = s .args .k} k)
 
 pub raw-sampler-spec : {M : Type 1} → statement M
-raw-sampler-spec = tie.close (tie.spec mul-result element-copy-out-result returns returns-2)
+raw-sampler-spec = tie.close (tie.spec mul-result array-read-result returns returns-2)

@@ -12,8 +12,8 @@ use Rattle.bindings.proofs.units.unit_at.Tie as tie
 mul-result : tie.Need-mul-result
 mul-result c = search needs
 
-element-copy-out-result : tie.Need-element-copy-out-result
-element-copy-out-result c = search needs
+array-copy-out-result : tie.Need-array-copy-out-result
+array-copy-out-result c = search needs
 
 returns : tie.Need-returns
 returns c = search needs
@@ -21,9 +21,9 @@ returns c = search needs
 returns-2 : tie.Need-returns-2
 returns-2 c =
     let s = c .before in
-    let b = s .args .t1 in
+    let b = s .args .b in
     let k : length (b .«texture_slots») ≤ s .args .u = omega (arith, units-long b _ (s .good .0)) in
     sym (List·getD-eq-default (b .«texture_slots») startTextureSlot {n = s .args .u} k)
 
 pub unit-at-spec : {M : Type 1} → statement M
-unit-at-spec = tie.close (tie.spec mul-result element-copy-out-result returns returns-2)
+unit-at-spec = tie.close (tie.spec mul-result array-copy-out-result returns returns-2)

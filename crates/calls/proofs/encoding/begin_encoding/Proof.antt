@@ -10,20 +10,17 @@ use borrow.Author.Needs.{needs}
 use Rattle.calls.proofs.encoding.begin_encoding.Statement.{statement}
 use Rattle.calls.proofs.encoding.begin_encoding.Tie as tie
 
+broken-limits-requires : tie.Need-broken-limits-requires
+broken-limits-requires c κs = search needs
+
 in-closed-requires : tie.Need-in-closed-requires
 in-closed-requires c κs = search needs
-
-in-phase-requires : tie.Need-in-phase-requires
-in-phase-requires c κs = search needs
 
 no-rooms-requires : tie.Need-no-rooms-requires
 no-rooms-requires c κs = search needs
 
-state-conditions-requires : tie.Need-state-conditions-requires
-state-conditions-requires c κs = search needs
-
-either-requires : tie.Need-either-requires
-either-requires c κs = search needs
+over-room-requires : tie.Need-over-room-requires
+over-room-requires c κs = search needs
 
 outcome-of-requires : tie.Need-outcome-of-requires
 outcome-of-requires c κs = search needs
@@ -42,7 +39,7 @@ unfolding outcomeOf
 returns c =
     let a = c .before .before .before .before .before .before .before .before .before .before .before .args in
     let o : c .before .before .before .before .outcome-of .result ≡ outcomeOf noRooms (a .s) (beginEncoding (a .s)) =
-    c .before .before .before .before .outcome-of .ensures ∙ rw (c .before .before .before .before .before .either .ensures, c .before .before .before .before .before .before .state-conditions .ensures, c .before .before .before .before .before .before .before .no-rooms .ensures, c .before .before .before .before .before .before .before .before .in-phase .ensures, c .before .before .before .before .before .before .before .before .before .in-closed .ensures) in
+    c .before .before .before .before .outcome-of .ensures ∙ rw (c .before .before .before .before .before .before .over-room .ensures, c .before .before .before .before .before .before .before .no-rooms .ensures, c .before .before .before .before .before .before .before .before .in-closed .ensures, c .before .before .before .before .before .before .before .before .before .broken-limits .ensures) in
     let t = sym (ap accepted o) ∙ sym (c .before .before .before .accepted .ensures) ∙ c .before .before .if1 .taken in
     keeps-done (a .caps) (a .s) begin-encoding (λ r. refl) refl refl refl _ o (c .with-progress .ensures ∙ rw (c .before .new .ensures, t))
 
@@ -51,7 +48,7 @@ unfolding outcomeOf
 returns-2 c =
     let a = c .before .before .before .before .before .before .before .before .before .args in
     let o : c .before .before .outcome-of .result ≡ outcomeOf noRooms (a .s) (beginEncoding (a .s)) =
-    c .before .before .outcome-of .ensures ∙ rw (c .before .before .before .either .ensures, c .before .before .before .before .state-conditions .ensures, c .before .before .before .before .before .no-rooms .ensures, c .before .before .before .before .before .before .in-phase .ensures, c .before .before .before .before .before .before .before .in-closed .ensures) in
+    c .before .before .outcome-of .ensures ∙ rw (c .before .before .before .before .over-room .ensures, c .before .before .before .before .before .no-rooms .ensures, c .before .before .before .before .before .before .in-closed .ensures, c .before .before .before .before .before .before .before .broken-limits .ensures) in
     let t = sym (ap accepted o) ∙ sym (c .before .accepted .ensures) ∙ c .if1 .left in
     keeps-done (a .caps) (a .s) begin-encoding (λ r. refl) refl refl refl _ o (rw t)
 
@@ -59,11 +56,10 @@ pub begin-encoding-spec : {M : Type 1} → statement M
 begin-encoding-spec =
     tie.close
     (tie.spec
+    broken-limits-requires
     in-closed-requires
-    in-phase-requires
     no-rooms-requires
-    state-conditions-requires
-    either-requires
+    over-room-requires
     outcome-of-requires
     accepted-requires
     new-requires

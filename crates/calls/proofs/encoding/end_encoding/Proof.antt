@@ -21,6 +21,9 @@ no-rooms-requires c κs = search needs
 nothing-requires : tie.Need-nothing-requires
 nothing-requires c κs = search needs
 
+broken-limits-requires : tie.Need-broken-limits-requires
+broken-limits-requires c κs = search needs
+
 judge-requires : tie.Need-judge-requires
 judge-requires c κs = search needs
 
@@ -30,8 +33,8 @@ with-progress-requires c κs = search needs
 returns : tie.Need-returns
 unfolding outcomeOf
 returns c =
-    let a = c .before .before .before .before .before .before .before .before .args in
-    let k = rw (c .before .before .before .before .no-rooms .ensures, c .before .before .before .nothing .ensures, c .before .before .before .before .before .in-phase .ensures, c .before .before .before .before .before .before .in-open .ensures) at (c .before .before .judge .ensures) in
+    let a = c .before .before .before .before .before .before .before .before .before .args in
+    let k = rw (c .before .before .before .before .before .no-rooms .ensures, c .before .before .before .before .nothing .ensures, c .before .before .before .broken-limits .ensures, c .before .before .before .before .before .before .in-phase .ensures, c .before .before .before .before .before .before .before .in-open .ensures) at (c .before .before .judge .ensures) in
     keeps-done (a .caps) (a .s) end-encoding (λ r. refl) refl refl refl _ (k .0) (c .with-progress .ensures ∙ stays-put (outcomeOf noRooms (a .s) (endEncoding (a .s))) (a .s) _ (progressAfter (endEncoding (a .s))) (k .2))
 
 pub end-encoding-spec : {M : Type 1} → statement M
@@ -42,6 +45,7 @@ end-encoding-spec =
     in-phase-requires
     no-rooms-requires
     nothing-requires
+    broken-limits-requires
     judge-requires
     with-progress-requires
     returns)

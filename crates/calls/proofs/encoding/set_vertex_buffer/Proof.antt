@@ -30,6 +30,9 @@ no-rooms-requires c κs = search needs
 nothing-requires : tie.Need-nothing-requires
 nothing-requires c κs = search needs
 
+broken-limits-requires : tie.Need-broken-limits-requires
+broken-limits-requires c κs = search needs
+
 judge-requires : tie.Need-judge-requires
 judge-requires c κs = search needs
 
@@ -45,13 +48,13 @@ with-vertex-requires c κs = search needs
 returns : tie.Need-returns
 unfolding outcomeOf
 returns c =
-    let a = c .before .before .before .before .before .before .before .before .before .before .args in
+    let a = c .before .before .before .before .before .before .before .before .before .before .before .args in
     let s = a .s in
     let m = setVertexBuffer s (a .index) (a .buffer) (a .offset) in
     let o = outcomeOf noRooms s m in
     let asks : Conditions =
     record { phase = not (inRender (s .progress .phase)); many = false; range = leb 16 (a .index); absent = eqb (a .buffer) 0; kind = false; sum = false; room = false } in
-    let k = rw (c .before .before .before .before .before .before .no-rooms .ensures, c .before .before .before .before .before .nothing .ensures, c .before .before .before .before .before .before .before .in-render .ensures) at (c .before .before .before .before .judge .ensures) in
+    let k = rw (c .before .before .before .before .before .before .before .no-rooms .ensures, c .before .before .before .before .before .before .nothing .ensures, c .before .before .before .before .before .broken-limits .ensures, c .before .before .before .before .before .before .before .before .in-render .ensures) at (c .before .before .before .before .judge .ensures) in
     let low : c .before .before .before .before .judge .result .ok ≡ true → a .index < 16 =
     λ h. leb-false 16 (a .index) (no-range noRooms s asks (s .progress .phase) nothing (sym (k .1) ∙ h)) in
     let new = boundSlot (a .index) (a .buffer) (a .offset) (s .vertex) in
@@ -66,6 +69,7 @@ set-vertex-buffer-spec =
     in-render-requires
     no-rooms-requires
     nothing-requires
+    broken-limits-requires
     judge-requires
     bound-slot-requires
     with-progress-requires

@@ -23,8 +23,8 @@ within-requires c κs = search needs
 mul-r : tie.Need-mul-r
 mul-r c = search needs
 
-element-copy-out-r : tie.Need-element-copy-out-r
-element-copy-out-r c = search needs
+array-copy-out-r : tie.Need-array-copy-out-r
+array-copy-out-r c = search needs
 
 color-point-requires : tie.Need-color-point-requires
 color-point-requires c κs = search needs
@@ -32,11 +32,11 @@ color-point-requires c κs = search needs
 returns : tie.Need-returns
 returns c =
     λ e h x.
-    let st = c .before .before .before .before .before .before in
-    let s = st .args .t1 in
+    let st = c .before .before .before .before .before .before .before in
+    let s = st .args .s in
     let k = st .args .k in
     let r = getD (s .resolves) k startResolve in
-    let n : k < s .«resolve_count» = omega (arith, c .before .before .before .before .if1 .taken, c .before .before .before .before .before .within .ensures) in
+    let n : k < s .«resolve_count» = omega (arith, c .before .before .before .before .before .if1 .taken, c .before .before .before .before .before .before .within .ensures) in
     let l : k < length (resolvesIn s) = subst (λ (m : ℕ). k < m) (length-map (resolvesIn s) (resolveCommand (s .«render_size»))) h in
     let m : getD (resolvesIn s) k startResolve ≡ r = getD-take (s .«resolve_count») (s .resolves) k startResolve n in
     let b : r .place < 8 = leb-false 8 (r .place) (rw m at (none-at badResolve (resolvesIn s) k startResolve l e)) in
@@ -46,11 +46,11 @@ returns-2 : tie.Need-returns-2
 returns-2 c =
     λ e h x.
     let st = c .before .before in
-    let s = st .args .t1 in
+    let s = st .args .s in
     let q = length-map (resolvesIn s) (resolveCommand (s .«render_size»)) in
     absurd (omega (arith, h, q, c .if1 .left, c .before .within .ensures, length-take (s .«resolve_count») (s .resolves), resolves-long s _ (st .good .0)))
 
 pub resolve-at-spec : {M : Type 1} → statement M
 resolve-at-spec =
     tie.close
-    (tie.spec within-requires mul-r element-copy-out-r color-point-requires returns returns-2)
+    (tie.spec within-requires mul-r array-copy-out-r color-point-requires returns returns-2)

@@ -25,28 +25,28 @@ within-requires c κs = search needs
 mul-a : tie.Need-mul-a
 mul-a c = search needs
 
-element-copy-out-a : tie.Need-element-copy-out-a
-element-copy-out-a c = search needs
+array-copy-out-a : tie.Need-array-copy-out-a
+array-copy-out-a c = search needs
 
 stamp-command-requires : tie.Need-stamp-command-requires
 stamp-command-requires c κs = search needs
 
 returns : tie.Need-returns
 returns c =
-    let st = c .before .before .before in
-    let v = st .args .t2 in
+    let st = c .before .before .before .before in
+    let v = st .args .v in
     let k = st .args .k in
     let q = length-map (attributesOf v) unsetAttribute in
-    let n : k < v .«attribute_count» = omega (arith, c .before .if1 .taken, c .before .before .within .ensures) in
+    let n : k < v .«attribute_count» = omega (arith, c .before .before .if1 .taken, c .before .before .before .within .ensures) in
     let l : k < length (attributesOf v) =
-    omega (arith, c .before .if1 .taken, c .before .before .within .ensures, length-take (v .«attribute_count») (v .attributes), attributes-long v _ (st .good .1 .0)) in
+    omega (arith, c .before .before .if1 .taken, c .before .before .before .within .ensures, length-take (v .«attribute_count») (v .attributes), attributes-long v _ (st .good .1 .0)) in
     stands-left (UnsetVertexAttribute (getD (v .attributes) k startAttribute .location)) k (map unsetAttribute (attributesOf v)) (timestamp (st .args .s .«end_of_pass_timestamp»)) (omega (arith, q, l))
     (λ h x. rw (map-at unsetAttribute (attributesOf v) k startAttribute x l, getD-take (v .«attribute_count») (v .attributes) k startAttribute n))
 
 returns-2 : tie.Need-returns-2
 returns-2 c =
     let st = c .before .before .before in
-    let v = st .args .t2 in
+    let v = st .args .v in
     let k = st .args .k in
     let xs = map unsetAttribute (attributesOf v) in
     let t = st .args .s .«end_of_pass_timestamp» in
@@ -58,4 +58,4 @@ returns-2 c =
 pub unset-at-spec : {M : Type 1} → statement M
 unset-at-spec =
     tie.close
-    (tie.spec within-requires mul-a element-copy-out-a stamp-command-requires returns returns-2)
+    (tie.spec within-requires mul-a array-copy-out-a stamp-command-requires returns returns-2)

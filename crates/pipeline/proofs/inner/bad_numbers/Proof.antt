@@ -12,16 +12,17 @@ use Rattle.pipeline.proofs.inner.bad_numbers.Statement.{statement}
 use Rattle.pipeline.proofs.inner.bad_numbers.Tie as tie
 
 abbrev Inv-loop : tie.InvT-loop
-Inv-loop p left₀ bad₀ left bad = (left ≤ 16) × (bad ≡ some? badNumber (drop left (p .«sampler_map»)))
+Inv-loop left₀ bad₀ map left bad = (left ≤ 16) × (bad ≡ some? badNumber (drop left map))
 
 abbrev μ-loop : tie.MeasureT-loop
-μ-loop p left₀ bad₀ left bad = left
+μ-loop left₀ bad₀ map left bad = left
 
 loop-holds : tie.Need-loop-holds Inv-loop μ-loop
 unfolding some?
 loop-holds c =
-    let p = c .args .t1 in
-    (omega arith, rw (drop-of-length-le (p .«sampler_map») {i = 16} (omega (arith, map-long p _ (c .good .0)))))
+    let s = c .before in
+    let p = s .args .p in
+    (omega arith, rw (drop-of-length-le (p .«sampler_map») {i = 16} (omega (arith, map-long p _ (s .good .0)))))
 
 sub-left : tie.Need-sub-left Inv-loop μ-loop
 sub-left c = omega arith
@@ -29,8 +30,8 @@ sub-left c = omega arith
 mul-s : tie.Need-mul-s Inv-loop μ-loop
 mul-s c = omega arith
 
-element-copy-out-s : tie.Need-element-copy-out-s Inv-loop μ-loop
-element-copy-out-s c = omega arith
+array-copy-out-s : tie.Need-array-copy-out-s Inv-loop μ-loop
+array-copy-out-s c = omega arith
 
 bad-number-requires : tie.Need-bad-number-requires Inv-loop μ-loop
 bad-number-requires c κs = search needs
@@ -41,8 +42,8 @@ loop-less c = omega arith
 loop-again : tie.Need-loop-again Inv-loop μ-loop
 unfolding some?
 loop-again c =
-    let s = c .before .before .before .before in
-    let p = s .args .t1 in
+    let s = c .before .before .before .before .before in
+    let p = s .args .p in
     let l = c .before .before .before .loop in
     let k : l .left ≤ length (p .«sampler_map») = omega (arith, map-long p _ (s .good .0)) in (
       omega arith,
@@ -64,7 +65,7 @@ bad-numbers-spec =
     loop-holds
     sub-left
     mul-s
-    element-copy-out-s
+    array-copy-out-s
     bad-number-requires
     loop-less
     loop-again

@@ -6,12 +6,12 @@ use Rattle.pipeline.proofs.inner.inner_out_of_range.Tie as tie
 bad-numbers-requires : tie.Need-bad-numbers-requires
 bad-numbers-requires c κs = search needs
 
-bad-descriptors-requires : tie.Need-bad-descriptors-requires
-bad-descriptors-requires c κs = search needs
+bad-words-requires : tie.Need-bad-words-requires
+bad-words-requires c κs = search needs
 
 returns : tie.Need-returns
-returns c = rw (c .bad-descriptors .ensures, c .before .bad-numbers .ensures)
+returns c = rw (c .bad-words .ensures, c .before .bad-numbers .ensures)
 
 pub inner-out-of-range-spec : {M : Type 1} → statement M
 inner-out-of-range-spec =
-    tie.close (tie.spec bad-numbers-requires bad-descriptors-requires returns)
+    tie.close (tie.spec bad-numbers-requires bad-words-requires returns)

@@ -20,10 +20,10 @@ abbrev at : List VertexBufferLayout → ℕ → VertexState → ℕ → Bool
 at layouts count v i = changes (descIn layouts count i) (descAt v i)
 
 abbrev Inv-loop : tie.InvT-loop
-Inv-loop count layouts v slots₀ i₀ slots i = (i ≤ 16) × (slots ≡ maskBy i (at layouts count v))
+Inv-loop count v layouts slots₀ i₀ buffers slots i = (i ≤ 16) × (slots ≡ maskBy i (at layouts count v))
 
 abbrev μ-loop : tie.MeasureT-loop
-μ-loop count layouts v slots₀ i₀ slots i = 16 - i
+μ-loop count v layouts slots₀ i₀ buffers slots i = 16 - i
 
 loop-holds : tie.Need-loop-holds Inv-loop μ-loop
 unfolding maskBy tabulate maskOf
@@ -44,8 +44,8 @@ counted-desc-requires c κs = search needs
 mul-slot : tie.Need-mul-slot Inv-loop μ-loop
 mul-slot c = omega arith
 
-element-copy-out-slot : tie.Need-element-copy-out-slot Inv-loop μ-loop
-element-copy-out-slot c = omega arith
+array-copy-out-slot : tie.Need-array-copy-out-slot Inv-loop μ-loop
+array-copy-out-slot c = omega arith
 
 test-requires : tie.Need-test-requires Inv-loop μ-loop
 test-requires c κs = search needs
@@ -70,7 +70,7 @@ loop-less c = omega arith
 
 loop-again : tie.Need-loop-again Inv-loop μ-loop
 loop-again c =
-    let a = c .before .before .before .before .before .before .before .before .before .before .args in
+    let a = c .before .before .before .before .before .before .before .before .before .before .before .args in
     let l = c .before .before .before .before .before .before .before .before .before .loop in
     let p : l .i + 1 ≡ suc (l .i) = omega arith in
     let h : l .i < 32 = omega arith in (
@@ -84,7 +84,7 @@ loop-again c =
         c .before .before .before .before .test .ensures,
         c .before .before .before .before .before .before .counted-desc .ensures,
         l .inv .1,
-      ) (by-next (l .i) (at (a .t1) (a .count) (a .t3)) h),
+      ) (by-next (l .i) (at (a .t1) (a .count) (a .v)) h),
     )
 
 returns : tie.Need-returns Inv-loop μ-loop
@@ -105,7 +105,7 @@ changed-slots-spec =
     array-copy-out-layout
     counted-desc-requires
     mul-slot
-    element-copy-out-slot
+    array-copy-out-slot
     test-requires
     test-requires-2
     slot-desc-requires

@@ -3,20 +3,18 @@ use Prim.Native.Nat.{_≤_, min}
 use mathlib.Core.Path.{_≡_}
 use native.Mathlib.Omega.{arith}
 use borrow.Author.Needs.{needs}
-use lib.ListN.{take, drop}
+use lib.ListN.{length, take, drop}
 use Rattle.records.specs.Check.{some?, badResolve}
 use Rattle.records.specs.Start.{startResolve}
-use Rattle.records.proofs.Long.{resolves-long}
 use Rattle.records.proofs.Scanning.{none-behind, one-counted}
 use Rattle.records.proofs.check.bad_resolves.Statement.{statement}
 use Rattle.records.proofs.check.bad_resolves.Tie as tie
 
 abbrev Inv-loop : tie.InvT-loop
-Inv-loop pass left₀ bad₀ left bad =
-    (left ≤ min (pass .«resolve_count») 8) × (bad ≡ some? badResolve (drop left (take (pass .«resolve_count») (pass .resolves))))
+Inv-loop count resolves left₀ bad₀ left bad = (left ≤ min count 8) × (bad ≡ some? badResolve (drop left (take count resolves)))
 
 abbrev μ-loop : tie.MeasureT-loop
-μ-loop pass left₀ bad₀ left bad = left
+μ-loop count resolves left₀ bad₀ left bad = left
 
 within-requires : tie.Need-within-requires Inv-loop μ-loop
 within-requires c κs = search needs
@@ -24,8 +22,9 @@ within-requires c κs = search needs
 loop-holds : tie.Need-loop-holds Inv-loop μ-loop
 unfolding some?
 loop-holds c =
-    let p = c .before .args .t1 in
-    (omega arith, rw (c .within .ensures, none-behind (p .resolves) (p .«resolve_count») 8 (resolves-long p _ (c .before .good .0))))
+    let s = c .before in
+    let e : length (s .args .t1) ≡ 8 = s .good .0 .1 .0 .1 in
+    (omega arith, rw (c .within .ensures, none-behind (s .args .t1) (s .args .count) 8 e))
 
 sub-left : tie.Need-sub-left Inv-loop μ-loop
 sub-left c = omega arith
@@ -33,8 +32,8 @@ sub-left c = omega arith
 mul-r : tie.Need-mul-r Inv-loop μ-loop
 mul-r c = omega arith
 
-element-copy-out-r : tie.Need-element-copy-out-r Inv-loop μ-loop
-element-copy-out-r c = omega arith
+array-copy-out-r : tie.Need-array-copy-out-r Inv-loop μ-loop
+array-copy-out-r c = omega arith
 
 bad-resolve-requires : tie.Need-bad-resolve-requires Inv-loop μ-loop
 bad-resolve-requires c κs = search needs
@@ -46,13 +45,11 @@ loop-again : tie.Need-loop-again Inv-loop μ-loop
 unfolding some?
 loop-again c =
     let s = c .before .before .before .before .before in
-    let p = s .args .t1 in
     let l = c .before .before .before .loop in
-    let n = p .«resolve_count» in
-    let e = resolves-long p _ (s .good .0) in (
+    let e : length (s .args .t1) ≡ 8 = s .good .0 .1 .0 .1 in (
       omega arith,
       rw (
-        one-counted (p .resolves) n 8 (l .left) startResolve e (c .before .before .loop-test .taken) (l .inv .0),
+        one-counted (s .args .t1) (s .args .count) 8 (l .left) startResolve e (c .before .before .loop-test .taken) (l .inv .0),
         c .bad-resolve .ensures,
         l .inv .1,
       ),
@@ -74,7 +71,7 @@ bad-resolves-spec =
     loop-holds
     sub-left
     mul-r
-    element-copy-out-r
+    array-copy-out-r
     bad-resolve-requires
     loop-less
     loop-again

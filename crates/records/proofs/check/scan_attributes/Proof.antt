@@ -3,29 +3,31 @@ use Prim.Native.Nat.{_≤_, min}
 use mathlib.Core.Path.{_≡_}
 use native.Mathlib.Omega.{arith}
 use borrow.Author.Needs.{needs}
-use lib.ListN.{take, drop}
+use lib.ListN.{length, take, drop}
 use Rattle.records.specs.Scan.{scanned}
 use Rattle.records.specs.Start.{startAttribute}
-use Rattle.records.proofs.Long.{attributes-long}
 use Rattle.records.proofs.Scanning.{none-behind, one-counted}
 use Rattle.records.proofs.check.scan_attributes.Statement.{statement}
 use Rattle.records.proofs.check.scan_attributes.Tie as tie
 
 abbrev Inv-loop : tie.InvT-loop
-Inv-loop vertex left₀ scan₀ left scan =
-    (left ≤ min (vertex .«attribute_count») 16) × (scan ≡ scanned (drop left (take (vertex .«attribute_count») (vertex .attributes))))
+Inv-loop count attributes left₀ scan₀ left scan = (left ≤ min count 16) × (scan ≡ scanned (drop left (take count attributes)))
 
 abbrev μ-loop : tie.MeasureT-loop
-μ-loop vertex left₀ scan₀ left scan = left
+μ-loop count attributes left₀ scan₀ left scan = left
 
 within-requires : tie.Need-within-requires Inv-loop μ-loop
 within-requires c κs = search needs
 
+new-requires : tie.Need-new-requires Inv-loop μ-loop
+new-requires c κs = search needs
+
 loop-holds : tie.Need-loop-holds Inv-loop μ-loop
 unfolding scanned
 loop-holds c =
-    let v = c .before .args .t1 in
-    (omega arith, rw (c .within .ensures, none-behind (v .attributes) (v .«attribute_count») 16 (attributes-long v _ (c .before .good .0))))
+    let s = c .before .before in
+    let e : length (s .args .t1) ≡ 16 = s .good .0 .1 .0 .1 in
+    (omega arith, rw (c .before .within .ensures, c .new .ensures, none-behind (s .args .t1) (s .args .count) 16 e))
 
 sub-left : tie.Need-sub-left Inv-loop μ-loop
 sub-left c = omega arith
@@ -33,8 +35,8 @@ sub-left c = omega arith
 mul-a : tie.Need-mul-a Inv-loop μ-loop
 mul-a c = omega arith
 
-element-copy-out-a : tie.Need-element-copy-out-a Inv-loop μ-loop
-element-copy-out-a c = omega arith
+array-copy-out-a : tie.Need-array-copy-out-a Inv-loop μ-loop
+array-copy-out-a c = omega arith
 
 scan-attribute-requires : tie.Need-scan-attribute-requires Inv-loop μ-loop
 scan-attribute-requires c κs = search needs
@@ -45,14 +47,12 @@ loop-less c = omega arith
 loop-again : tie.Need-loop-again Inv-loop μ-loop
 unfolding scanned
 loop-again c =
-    let s = c .before .before .before .before .before in
-    let v = s .args .t1 in
+    let s = c .before .before .before .before .before .before in
     let l = c .before .before .before .loop in
-    let n = v .«attribute_count» in
-    let e = attributes-long v _ (s .good .0) in (
+    let e : length (s .args .t1) ≡ 16 = s .good .0 .1 .0 .1 in (
       omega arith,
       rw (
-        one-counted (v .attributes) n 16 (l .left) startAttribute e (c .before .before .loop-test .taken) (l .inv .0),
+        one-counted (s .args .t1) (s .args .count) 16 (l .left) startAttribute e (c .before .before .loop-test .taken) (l .inv .0),
         c .scan-attribute .ensures,
         l .inv .1,
       ),
@@ -71,10 +71,11 @@ scan-attributes-spec =
     Inv-loop
     μ-loop
     within-requires
+    new-requires
     loop-holds
     sub-left
     mul-a
-    element-copy-out-a
+    array-copy-out-a
     scan-attribute-requires
     loop-less
     loop-again

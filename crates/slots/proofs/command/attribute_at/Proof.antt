@@ -17,23 +17,24 @@ within-requires c κs = search needs
 mul-result : tie.Need-mul-result
 mul-result c = search needs
 
-element-copy-out-result : tie.Need-element-copy-out-result
-element-copy-out-result c = search needs
+array-copy-out-result : tie.Need-array-copy-out-result
+array-copy-out-result c = search needs
 
 new-requires : tie.Need-new-requires
 new-requires c κs = search needs
 
 returns : tie.Need-returns
 returns c =
-    let v = c .before .before .before .args .t1 in
-    let i = c .before .before .before .args .i in
+    let a = c .before .before .before .before .args in
+    let v = a .v in
+    let i = a .i in
     let h : i < v .«attribute_count» = omega arith in
     rw (getD-take (v .«attribute_count») (v .attributes) i startAttribute h)
 
 returns-2 : tie.Need-returns-2
 returns-2 c =
     let s = c .before .before .before in
-    let v = s .args .t1 in
+    let v = s .args .v in
     let i = s .args .i in
     let k : length (attributesOf v) ≤ i = omega (arith, length-take (v .«attribute_count») (v .attributes), attributes-long v _ (s .good .0)) in
     c .new .ensures ∙ sym (List·getD-eq-default (attributesOf v) startAttribute {n = i} k)
@@ -41,4 +42,4 @@ returns-2 c =
 pub attribute-at-spec : {M : Type 1} → statement M
 attribute-at-spec =
     tie.close
-    (tie.spec within-requires mul-result element-copy-out-result new-requires returns returns-2)
+    (tie.spec within-requires mul-result array-copy-out-result new-requires returns returns-2)

@@ -13,11 +13,11 @@ use Rattle.slots.proofs.prepare.sweep_attributes.Statement.{statement}
 use Rattle.slots.proofs.prepare.sweep_attributes.Tie as tie
 
 abbrev Inv-loop : tie.InvT-loop
-Inv-loop w v m left₀ sweep₀ left sweep =
+Inv-loop v w m left₀ sweep₀ attributes left sweep =
     (left ≤ min (v .«attribute_count») 16) × (sweep .count + left ≤ 16) × (sweep ≡ swept m v w (drop left (attributesOf v)))
 
 abbrev μ-loop : tie.MeasureT-loop
-μ-loop w v m left₀ sweep₀ left sweep = left
+μ-loop v w m left₀ sweep₀ attributes left sweep = left
 
 rebound-requires : tie.Need-rebound-requires Inv-loop μ-loop
 rebound-requires c κs = search needs
@@ -28,10 +28,11 @@ within-requires c κs = search needs
 loop-holds : tie.Need-loop-holds Inv-loop μ-loop
 unfolding swept
 loop-holds c =
-    let v = c .before .before .args .t1 in (
+    let s = c .before .before .before in
+    let v = s .args .v in (
       omega arith,
       omega arith,
-      rw (c .within .ensures, none-behind (v .attributes) (v .«attribute_count») 16 (attributes-long v _ (c .before .before .good .0))),
+      rw (c .before .within .ensures, none-behind (v .attributes) (v .«attribute_count») 16 (attributes-long v _ (s .good .0))),
     )
 
 sub-left : tie.Need-sub-left Inv-loop μ-loop
@@ -40,8 +41,8 @@ sub-left c = omega arith
 mul-a : tie.Need-mul-a Inv-loop μ-loop
 mul-a c = omega arith
 
-element-copy-out-a : tie.Need-element-copy-out-a Inv-loop μ-loop
-element-copy-out-a c = omega arith
+array-copy-out-a : tie.Need-array-copy-out-a Inv-loop μ-loop
+array-copy-out-a c = omega arith
 
 sweep-attribute-requires : tie.Need-sweep-attribute-requires Inv-loop μ-loop
 sweep-attribute-requires c κs = search needs
@@ -52,10 +53,10 @@ loop-less c = omega arith
 loop-again : tie.Need-loop-again Inv-loop μ-loop
 unfolding swept
 loop-again c =
-    let s = c .before .before .before .before .before .before in
-    let v = s .args .t1 in
+    let s = c .before .before .before .before .before .before .before in
+    let v = s .args .v in
     let l = c .before .before .before .loop in
-    let r = c .before .before .before .before .before .rebound .result in
+    let r = c .before .before .before .before .before .before .rebound .result in
     let n = v .«attribute_count» in
     let e = attributes-long v _ (s .good .0) in
     let a = getD (v .attributes) (l .left - 1) startAttribute in
@@ -73,7 +74,7 @@ returns : tie.Need-returns Inv-loop μ-loop
 returns c =
     let l = c .before .loop in
     let e : l .left ≡ 0 = omega arith in
-    rw (e, c .before .before .before .rebound .ensures) at (l .inv .2)
+    rw (e, c .before .before .before .before .rebound .ensures) at (l .inv .2)
 
 pub sweep-attributes-spec : {M : Type 1} → statement M
 sweep-attributes-spec =
@@ -86,7 +87,7 @@ sweep-attributes-spec =
     loop-holds
     sub-left
     mul-a
-    element-copy-out-a
+    array-copy-out-a
     sweep-attribute-requires
     loop-less
     loop-again
