@@ -18,6 +18,7 @@ use crate::phase::in_render;
 use records::check::broken_limits;
 use records::check::over_room;
 use records::outcome::Conditions;
+use records::outcome::either;
 use records::outcome::outcome_of;
 use records::pipeline::PrivateCapabilities;
 use records::state::Answer;
@@ -34,8 +35,8 @@ pub fn begin_encoding(caps: PrivateCapabilities, s: State) -> Answer
     let p = s.progress;
     let phase = p.phase;
     let broken = broken_limits(s);
-    let c = Conditions {
-        phase: !in_closed(phase),
+    let held = Conditions {
+        phase: false,
         many: broken.many,
         range: broken.range,
         absent: false,
@@ -43,7 +44,9 @@ pub fn begin_encoding(caps: PrivateCapabilities, s: State) -> Answer
         sum: false,
         room: over_room(p, no_rooms()),
     };
-    let outcome = outcome_of(c);
+    let c = in_phase(in_closed(phase));
+    let all = either(held, c);
+    let outcome = outcome_of(all);
     if accepted(outcome) {
         let fresh = State::new();
         let open = Progress {

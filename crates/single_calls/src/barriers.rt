@@ -11,8 +11,9 @@ ghost use Rattle.single_calls.specs.One.{OneOf};
 ghost use Rattle.calls.specs.Step.{transitionTextures};
 ghost use Rattle.calls.specs.Transfers.{textureUses};
 use crate::one::OnePlan;
-use crate::one::commit_one;
+use crate::one::one_answer;
 use crate::one::plan_one;
+use crate::one::record_one;
 use calls::phase::in_open;
 use calls::phase::run_asks;
 use records::check::within;
@@ -87,5 +88,6 @@ pub fn transition_textures(
     ensures { λ r. ⌜ Lists caps s (transition-textures (record { run = now (barriers .entry); count = count })) (now (list .entry)) r (now (list .exit)) ⌝ }
 {
     let plan = plan_transition_textures(barriers, list.len(), count, caps, s);
-    commit_one(list, plan)
+    record_one(list, plan);
+    one_answer(plan, s)
 }

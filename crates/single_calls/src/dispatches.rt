@@ -5,8 +5,9 @@ ghost use Rattle.calls.specs.Did.{Lists};
 ghost use Rattle.single_calls.specs.One.{OneOf};
 ghost use Rattle.calls.specs.Step.{clearBuffer, dispatchWorkgroups, dispatchIndirect};
 use crate::one::OnePlan;
-use crate::one::commit_one;
+use crate::one::one_answer;
 use crate::one::plan_one;
+use crate::one::record_one;
 use calls::phase::in_compute;
 use calls::phase::in_open;
 use calls::phase::in_phase;
@@ -54,7 +55,8 @@ pub fn clear_buffer(
     ensures { λ r. ⌜ Lists caps s (clear-buffer buffer range) (now (list .entry)) r (now (list .exit)) ⌝ }
 {
     let plan = plan_clear_buffer(list.len(), caps, s, buffer, range);
-    commit_one(list, plan)
+    record_one(list, plan);
+    one_answer(plan, s)
 }
 
 pub fn plan_dispatch_workgroups(
@@ -85,7 +87,8 @@ pub fn dispatch_workgroups(
     ensures { λ r. ⌜ Lists caps s (dispatch-workgroups x y z) (now (list .entry)) r (now (list .exit)) ⌝ }
 {
     let plan = plan_dispatch_workgroups(list.len(), caps, s, x, y, z);
-    commit_one(list, plan)
+    record_one(list, plan);
+    one_answer(plan, s)
 }
 
 pub fn plan_dispatch_workgroups_indirect(
@@ -122,5 +125,6 @@ pub fn dispatch_workgroups_indirect(
     ensures { λ r. ⌜ Lists caps s (dispatch-workgroups-indirect buffer offset) (now (list .entry)) r (now (list .exit)) ⌝ }
 {
     let plan = plan_dispatch_workgroups_indirect(list.len(), caps, s, buffer, offset);
-    commit_one(list, plan)
+    record_one(list, plan);
+    one_answer(plan, s)
 }

@@ -13,12 +13,15 @@ use calls::judge::commands_only;
 use calls::judge::judge;
 use calls::judge::list_rooms;
 use calls::judge::spot_of;
+use calls::parts::with_draw;
 use calls::parts::with_progress;
 use records::command::Command;
 use records::command::Record;
 use records::outcome::Conditions;
 use records::outcome::Outcome;
 use records::state::Answer;
+use records::state::DrawState;
+use records::state::Progress;
 use records::state::State;
 
 // Where the command goes, and whether there is one.
@@ -29,7 +32,8 @@ pub struct One {
 }
 
 pub struct OnePlan {
-    pub next: State,
+    pub progress: Progress,
+    pub draw: DrawState,
     pub batch: One,
     pub outcome: Outcome,
 }
@@ -71,23 +75,23 @@ fn one_count(batch: One) -> usize
     batch.n
 }
 
-pub fn one_answer(plan: OnePlan) -> Answer
-    ensures { λ r. ⌜ r ≡ oneAnswer plan ⌝ }
+pub fn one_answer(plan: OnePlan, s: State) -> Answer
+    ensures { λ r. ⌜ r ≡ oneAnswer plan s ⌝ }
 {
-    let state = plan.next;
     let outcome = plan.outcome;
+    let moved = with_progress(s, plan.progress);
+    let state = with_draw(moved, plan.draw);
     Answer { outcome, state }
 }
 
-pub fn commit_one(list: &mut [Record], plan: OnePlan) -> Answer
+pub fn record_one(list: &mut [Record], plan: OnePlan)
     requires { ⌜ (plan .batch .at + plan .batch .n ≤ length (now list)) × ((i : ℕ) → i < plan .batch .n → i < 1) ⌝ }
-    ensures { λ r. ⌜ (r ≡ oneAnswer plan) × (now (list .exit) ≡ filled (λ i. recordOf (plan .batch .command)) (now (list .entry)) (plan .batch .at) (plan .batch .n)) ⌝ }
+    ensures { λ _. ⌜ now (list .exit) ≡ filled (λ i. recordOf (plan .batch .command)) (now (list .entry)) (plan .batch .at) (plan .batch .n) ⌝ }
 {
     let batch = one_batch(plan);
     let at = one_at(batch);
     let n = one_count(batch);
     fill_one(list, at, n, batch);
-    one_answer(plan)
 }
 
 // One command, or none.
@@ -111,9 +115,10 @@ pub fn plan_one(room: usize, s: State, c: Conditions, some: bool, command: Comma
     let place = spot_of(v.ok, p.commands, n);
     let outcome = v.outcome;
     let progress = v.progress;
-    let next = with_progress(s, progress);
+    let draw = s.draw;
     OnePlan {
-        next,
+        progress,
+        draw,
         batch: One {
             at: place.at,
             n: place.n,

@@ -5,8 +5,9 @@ ghost use Rattle.calls.specs.Did.{Keeps, Lists};
 ghost use Rattle.single_calls.specs.One.{OneOf};
 ghost use Rattle.calls.specs.Step.{beginQuery, endQuery, writeTimestamp};
 use crate::one::OnePlan;
-use crate::one::commit_one;
+use crate::one::one_answer;
 use crate::one::plan_one;
+use crate::one::record_one;
 use calls::judge::judge;
 use calls::judge::no_rooms;
 use calls::judge::nothing;
@@ -53,7 +54,8 @@ pub fn begin_query(
     ensures { λ r. ⌜ Lists caps s (begin-query (record { queries = record { run = now (set .entry); count = count }; target = target }) index) (now (list .entry)) r (now (list .exit)) ⌝ }
 {
     let plan = plan_begin_query(set, list.len(), count, target, caps, s, index);
-    commit_one(list, plan)
+    record_one(list, plan);
+    one_answer(plan, s)
 }
 
 pub fn plan_end_query(
@@ -87,7 +89,8 @@ pub fn end_query(
     ensures { λ r. ⌜ Lists caps s (end-query (record { queries = record { run = now (set .entry); count = count }; target = target }) index) (now (list .entry)) r (now (list .exit)) ⌝ }
 {
     let plan = plan_end_query(set, list.len(), count, target, caps, s, index);
-    commit_one(list, plan)
+    record_one(list, plan);
+    one_answer(plan, s)
 }
 
 pub fn plan_write_timestamp(
@@ -122,7 +125,8 @@ pub fn write_timestamp(
     ensures { λ r. ⌜ Lists caps s (write-timestamp (record { queries = record { run = now (set .entry); count = count }; target = target }) index) (now (list .entry)) r (now (list .exit)) ⌝ }
 {
     let plan = plan_write_timestamp(set, list.len(), count, target, caps, s, index);
-    commit_one(list, plan)
+    record_one(list, plan);
+    one_answer(plan, s)
 }
 
 // The queries from `start` to `end` of the set.

@@ -8,14 +8,13 @@ ghost use Rattle.calls.specs.Settings.{viewportRect, scissorRect, indexed as in
 ghost use Rattle.calls.specs.Step.{setIndexBuffer, setViewport, setScissorRect, setBlendConstants};
 use crate::one::One;
 use crate::one::OnePlan;
-use crate::one::commit_one;
+use crate::one::one_answer;
 use crate::one::plan_one;
+use crate::one::record_one;
 use calls::judge::commands_only;
 use calls::judge::judge;
 use calls::judge::list_rooms;
 use calls::judge::spot_of;
-use calls::parts::with_draw;
-use calls::parts::with_progress;
 use calls::phase::in_phase;
 use calls::phase::in_phase_with;
 use calls::phase::in_render;
@@ -71,7 +70,8 @@ pub fn set_viewport(
     ensures { λ r. ⌜ Lists caps s (set-viewport rect depth) (now (list .entry)) r (now (list .exit)) ⌝ }
 {
     let plan = plan_set_viewport(list.len(), caps, s, rect, depth);
-    commit_one(list, plan)
+    record_one(list, plan);
+    one_answer(plan, s)
 }
 
 fn scissor_rect(r: RectU32) -> RectI32
@@ -109,7 +109,8 @@ pub fn set_scissor_rect(
     ensures { λ r. ⌜ Lists caps s (set-scissor-rect rect) (now (list .entry)) r (now (list .exit)) ⌝ }
 {
     let plan = plan_set_scissor_rect(list.len(), caps, s, rect);
-    commit_one(list, plan)
+    record_one(list, plan);
+    one_answer(plan, s)
 }
 
 pub fn plan_set_blend_constants(
@@ -135,7 +136,8 @@ pub fn set_blend_constants(
     ensures { λ r. ⌜ Lists caps s (set-blend-constants color) (now (list .entry)) r (now (list .exit)) ⌝ }
 {
     let plan = plan_set_blend_constants(list.len(), caps, s, color);
-    commit_one(list, plan)
+    record_one(list, plan);
+    one_answer(plan, s)
 }
 
 // The index buffer's format and offset, or what they were.
@@ -175,10 +177,9 @@ pub fn plan_set_index_buffer(
     let outcome = v.outcome;
     let progress = v.progress;
     let draw = indexed(v.ok, d, offset, format);
-    let moved = with_progress(s, progress);
-    let next = with_draw(moved, draw);
     OnePlan {
-        next,
+        progress,
+        draw,
         batch: One {
             at: place.at,
             n: place.n,
@@ -199,5 +200,6 @@ pub fn set_index_buffer(
     ensures { λ r. ⌜ Lists caps s (set-index-buffer buffer offset format) (now (list .entry)) r (now (list .exit)) ⌝ }
 {
     let plan = plan_set_index_buffer(list.len(), caps, s, buffer, offset, format);
-    commit_one(list, plan)
+    record_one(list, plan);
+    one_answer(plan, s)
 }

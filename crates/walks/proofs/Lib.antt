@@ -1,7 +1,5 @@
 pub mod Args
 pub mod Calls
-pub mod Committing
-pub mod CommittingFrom
 pub mod Filled
 pub mod Filling
 pub mod FillingFrom
@@ -9,5 +7,7 @@ pub mod Listing
 pub mod Passing
 pub mod Reading
 pub mod ReadingFrom
+pub mod Recording
+pub mod RecordingFrom
 pub mod Resolving
 pub mod Slices

@@ -30,7 +30,7 @@ set-requires-2 : tie.Need-set-requires-2
 set-requires-2 c κs = search needs
 
 returns-3 : tie.Need-returns-3
-returns-3 c = λ h. rw (c .set2 .ensures, c .before .set .ensures, c .before .before .before .before .slot-at .ensures, on (c .before .before .before .before .before .before .before .args .ok) (c .before .before .before .before .before .before .if1 .left))
+returns-3 c = λ h. rw (c .set2 .ensures, c .before .set .ensures, c .before .before .before .slot-at .ensures, on (c .before .before .before .before .before .before .args .ok) (c .before .before .before .before .before .if1 .left))
 
 pub bound-slot-spec : {M : Type 1} → statement M
 bound-slot-spec =

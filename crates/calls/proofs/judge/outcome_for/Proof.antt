@@ -13,7 +13,7 @@ outcome-of-requires : tie.Need-outcome-of-requires
 outcome-of-requires c κs = search needs
 
 returns : tie.Need-returns
-returns c = rw (c .outcome-of .ensures, c .before .before .over-after .ensures, c .before .before .before .over-room .ensures)
+returns c = rw (c .outcome-of .ensures, c .before .before .before .before .before .before .before .before .over-after .ensures, c .before .before .before .before .before .before .before .before .before .over-room .ensures)
 
 pub outcome-for-spec : {M : Type 1} → statement M
 outcome-for-spec = tie.close (tie.spec over-room-requires over-after-requires outcome-of-requires returns)

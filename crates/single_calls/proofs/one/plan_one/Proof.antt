@@ -1,4 +1,5 @@
 -- `single_calls::one::plan_one` meets its contract. Assumes nothing.
+use mathlib.Core.Path.{refl}
 use Rattle.pipeline.specs.Fixed.{only}
 use Rattle.calls.proofs.Plans.{laid, found, same, only-at}
 use borrow.Author.Needs.{needs}
@@ -20,15 +21,12 @@ judge-requires c κs = search needs
 spot-of-requires : tie.Need-spot-of-requires
 spot-of-requires c κs = search needs
 
-with-progress-requires : tie.Need-with-progress-requires
-with-progress-requires c κs = search needs
-
 returns : tie.Need-returns
 returns c =
     let s = c .before .before .before .before .before .before .before .before .args .s in
     let cs = only (c .before .before .before .before .before .before .before .before .args .some) (c .before .before .before .before .before .before .before .before .args .command) in
     let k = found (c .before .before .before .before .before .before .before .before .args .room) s (c .before .before .before .before .before .before .before .before .args .c) (s .progress .phase) cs _ _ _ _ (c .before .before .before .before .before .list-rooms .ensures) (c .before .before .before .before .before .before .count-of .ensures (c .before .before .before .before .before .before .before .before .args .command)) (c .before .before .before .before .commands-only .ensures) (c .before .before .before .judge .ensures) (c .before .before .spot-of .ensures) in
-    ((k .said, same (c .before .before .before .before .before .before .before .before .args .room) s (c .before .before .before .before .before .before .before .before .args .c) (s .progress .phase) cs k _ (c .with-progress .ensures)), laid (c .before .before .before .before .before .before .before .before .args .room) s (c .before .before .before .before .before .before .before .before .args .c) (s .progress .phase) cs _ _ _ (k .here) (k .many) (λ h i l. only-at (c .before .before .before .before .before .before .before .before .args .some) (c .before .before .before .before .before .before .before .before .args .command) i l))
+    ((k .said, same (c .before .before .before .before .before .before .before .before .args .room) s (c .before .before .before .before .before .before .before .before .args .c) (s .progress .phase) cs k _ refl), laid (c .before .before .before .before .before .before .before .before .args .room) s (c .before .before .before .before .before .before .before .before .args .c) (s .progress .phase) cs _ _ _ (k .here) (k .many) (λ h i l. only-at (c .before .before .before .before .before .before .before .before .args .some) (c .before .before .before .before .before .before .before .before .args .command) i l))
 
 pub plan-one-spec : {M : Type 1} → statement M
 plan-one-spec =
@@ -39,5 +37,4 @@ plan-one-spec =
     commands-only-requires
     judge-requires
     spot-of-requires
-    with-progress-requires
     returns)

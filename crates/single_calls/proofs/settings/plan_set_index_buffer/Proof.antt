@@ -39,24 +39,18 @@ spot-of-requires c κs = search needs
 indexed-requires : tie.Need-indexed-requires
 indexed-requires c κs = search needs
 
-with-progress-requires : tie.Need-with-progress-requires
-with-progress-requires c κs = search needs
-
-with-draw-requires : tie.Need-with-draw-requires
-with-draw-requires c κs = search needs
-
 returns : tie.Need-returns
 unfolding outcomeOf
 returns c =
-    let a = c .before .before .before .before .before .before .before .before .before .before .before .before .args in
+    let a = c .before .before .before .before .before .before .before .before .before .before .args in
     let s = a .s in
     let cs : List Command = SetIndexBuffer (a .buffer) ∷ [] in
     let asks : Conditions =
     record { phase = not (inRender (s .progress .phase)); many = false; range = false; absent = eqb (a .buffer) 0; kind = false; sum = false; room = false } in
-    let k = found (a .room) s asks (s .progress .phase) cs _ _ _ _ (c .before .before .before .before .before .before .before .list-rooms .ensures) refl (c .before .before .before .before .before .before .commands-only .ensures)
-    (rw (c .before .before .before .before .before .before .before .before .in-phase-with .ensures, c .before .before .before .before .before .before .before .before .before .in-render .ensures) at (c .before .before .before .before .before .judge .ensures)) (c .before .before .before .before .spot-of .ensures) in
+    let k = found (a .room) s asks (s .progress .phase) cs _ _ _ _ (c .before .before .before .before .before .list-rooms .ensures) refl (c .before .before .before .before .commands-only .ensures)
+    (rw (c .before .before .before .before .before .before .in-phase-with .ensures, c .before .before .before .before .before .before .before .in-render .ensures) at (c .before .before .before .judge .ensures)) (c .before .before .spot-of .ensures) in
     let new = indexed (a .offset) (a .format) (s .draw) in
-    let after = draw-moved _ _ new s _ _ _ _ (c .with-draw .ensures) (c .before .with-progress .ensures) (c .before .before .indexed .ensures) (k .sure) in (
+    let after = draw-moved _ _ new s _ _ _ _ refl refl (c .indexed .ensures) (k .sure) in (
       (k .said, next (a .room) s asks (s .progress .phase) cs k (withDraw new s) _ after),
       laid (a .room) s asks (s .progress .phase) cs _ _ _ (k .here) (k .many) (λ h i l. alone (SetIndexBuffer (a .buffer)) i l PopDebugGroup),
     )
@@ -72,6 +66,4 @@ plan-set-index-buffer-spec =
     judge-requires
     spot-of-requires
     indexed-requires
-    with-progress-requires
-    with-draw-requires
     returns)

@@ -3,7 +3,7 @@ use mathlib.Core.List.{[], _∷_}
 use mathlib.Core.Path.{refl}
 use native.Mathlib.Omega.{arith}
 use Rattle.walks.proofs.Args.{of-struct}
-use Rattle.walks.proofs.Committing.{Plans}
+use Rattle.walks.proofs.Recording.{Plans, Answers}
 use Rattle.walks.proofs.Listing.{lists}
 use Rattle.records.proofs.args.RectU32 as Rect
 use Rattle.records.proofs.args.RectU32.Laws as Rect′
@@ -11,12 +11,14 @@ use Rattle.calls.specs.Call.{set-scissor-rect}
 use Rattle.calls.specs.Did.{Lists}
 use Rattle.single_calls.specs.One.{OneOf}
 use Rattle.calls.specs.Step.{setScissorRect}
-use Rattle.calls.proofs.Data.{text, board, state}
-use Rattle.single_calls.proofs.Ones.{Spelled, ones, one-fits, one-done}
+use Rattle.calls.proofs.Data.{text, board}
+use Rattle.single_calls.proofs.Ones.{Spelled, one-plan, ones, one-answers, one-fits, one-done}
 use Rattle.single_calls.proofs.settings.plan_set_scissor_rect.Symbol as plan
 use Rattle.single_calls.proofs.settings.plan_set_scissor_rect.Met as plan-thm
-use Rattle.single_calls.proofs.one.commit_one.Symbol as commit
-use Rattle.single_calls.proofs.one.commit_one.Met as commit-thm
+use Rattle.single_calls.proofs.one.record_one.Symbol as recorder
+use Rattle.single_calls.proofs.one.record_one.Met as recorder-thm
+use Rattle.single_calls.proofs.one.one_answer.Symbol as answer
+use Rattle.single_calls.proofs.one.one_answer.Met as answer-thm
 use Rattle.single_calls.proofs.settings.set_scissor_rect.Key as key
 use Rattle.single_calls.proofs.settings.set_scissor_rect.Statement.{statement}
 use Rattle.single_calls.proofs.settings.set_scissor_rect.Code as code
@@ -26,12 +28,15 @@ spelled : Spelled written.table
 spelled = record { records = refl; commands = refl; batches = refl }
 
 abbrev plans : Plans
-plans = ones written.table spelled refl refl
+plans = ones written.table spelled refl
+
+abbrev answers : Answers (one-plan written.table refl)
+answers = one-answers written.table refl refl refl
 
 pub set-scissor-rect-spec : {M : Type 1} → statement M
 unfolding code.routine
 set-scissor-rect-spec 𝓤 H 𝓜 𝓖 𝓡 =
-    lists plans (board written.table refl ∷ state written.table refl ∷ of-struct Rect.the-type Rect′.the-laws Rect′.the-plain (text written.table Rect.the-type) refl ∷ []) (λ n d p. OneOf n (d .1 .0) (setScissorRect (d .1 .0) (d .1 .1 .0)) p) (λ ys d zs r. Lists (d .0) (d .1 .0) (set-scissor-rect (d .1 .1 .0)) ys r zs)
+    lists plans answers (board written.table refl ∷ []) (of-struct Rect.the-type Rect′.the-laws Rect′.the-plain (text written.table Rect.the-type) refl ∷ []) (λ n d p. OneOf n (d .1 .0) (setScissorRect (d .1 .0) (d .1 .1 .0)) p) (λ ys d zs r. Lists (d .0) (d .1 .0) (set-scissor-rect (d .1 .1 .0)) ys r zs)
     (λ n d p h. one-fits n (d .1 .0) _ _ _ p (omega arith) h) (λ ys d zs r p h e. one-done (d .0) (d .1 .0) (set-scissor-rect (d .1 .1 .0)) (λ x. refl) refl refl ys zs r p h e) 𝓤 H 𝓜 𝓖 𝓡
-    code.env key.name plan.name commit.name (code.unfolded 𝓤 H 𝓜 𝓡) commit.routine code.calls-single-calls·one·commit-one (commit-thm.met 𝓤 H 𝓜 𝓖 𝓡)
-    plan.routine code.calls-single-calls·settings·plan-set-scissor-rect (plan-thm.met 𝓤 H 𝓜 𝓖 𝓡)
+    code.env key.name plan.name recorder.name answer.name (code.unfolded 𝓤 H 𝓜 𝓡) plan.routine code.calls-single-calls·settings·plan-set-scissor-rect (plan-thm.met 𝓤 H 𝓜 𝓖 𝓡)
+    recorder.routine code.calls-single-calls·one·record-one (recorder-thm.met 𝓤 H 𝓜 𝓖 𝓡) answer.routine code.calls-single-calls·one·one-answer (answer-thm.met 𝓤 H 𝓜 𝓖 𝓡)
