@@ -88,7 +88,7 @@ module _ (room : ℕ) (s : State) (c : Conditions) (phase : Phase) (cs : List Co
   pub found : (rooms : Rooms) (b : Broken) (k : ℕ) (more : Counts) {o : Outcome} (ok : Bool) {p : Progress} {at n : ℕ}
       → rooms ≡ listRooms room → b ≡ brokenLimits s → k ≡ length cs → more ≡ commandsOnly k
       → (o ≡ judgedBy rooms b (s .progress) c phase more) × (ok ≡ accepted (judgedBy rooms b (s .progress) c phase more))
-          × (p ≡ taken (judgedBy rooms b (s .progress) c phase more) (grown (s .progress) phase more) (s .progress))
+      × (p ≡ taken (judgedBy rooms b (s .progress) c phase more) (grown (s .progress) phase more) (s .progress))
       → (at ≡ cond ok (s .progress .commands) 0) × (n ≡ cond ok k 0) → Found o ok p at n
   found rooms b k more ok r h l m v w =
       let e : more ≡ commandsOnly (length cs) = m ∙ ap commandsOnly l in

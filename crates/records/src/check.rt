@@ -232,7 +232,8 @@ pub fn broken_limits(state: State) -> Broken
     Broken {
         many: too_many(state),
         range: scan.bad
-            | (bad_units(bind) | (bad_immediates(immediates) | (bad_pass(pass) | bad_masks(state)))),
+            | (bad_units(bind)
+                | (bad_immediates(immediates) | (bad_pass(pass) | bad_masks(state)))),
         kind: scan.twice,
     }
 }

@@ -16,6 +16,7 @@ use crate::one::plan_one;
 use crate::one::record_one;
 use calls::phase::in_open;
 use calls::phase::run_asks;
+use records::check::broken_limits;
 use records::check::within;
 use records::command::Command;
 use records::command::Record;
@@ -69,13 +70,14 @@ pub fn plan_transition_textures(
 ) -> OnePlan
     ensures { λ r. ⌜ OneOf room s (transitionTextures caps s (record { run = now (barriers .entry); count = count })) r ⌝ }
 {
+    let broken = broken_limits(s);
     let p = s.progress;
     let phase = p.phase;
     let uses = texture_uses(barriers, count);
     let short = over_pairs(barriers.len(), count);
     let c = run_asks(in_open(phase), false, short);
     let some = caps.memory_barriers & (uses != 0);
-    plan_one(room, s, c, some, Command::TextureBarrier(uses))
+    plan_one(room, broken, s, c, some, Command::TextureBarrier(uses))
 }
 
 pub fn transition_textures(

@@ -13,6 +13,7 @@ use calls::phase::in_open;
 use calls::phase::in_phase;
 use calls::phase::in_phase_with;
 use records::args::Buffer;
+use records::check::broken_limits;
 use records::command::Command;
 use records::command::MemoryRange;
 use records::command::Record;
@@ -29,11 +30,13 @@ pub fn plan_clear_buffer(
 ) -> OnePlan
     ensures { λ r. ⌜ OneOf room s (clearBuffer s buffer range) r ⌝ }
 {
+    let broken = broken_limits(s);
     let progress = s.progress;
     let phase = progress.phase;
     let c = in_phase(in_open(phase));
     plan_one(
         room,
+        broken,
         s,
         c,
         true,
@@ -69,11 +72,12 @@ pub fn plan_dispatch_workgroups(
 ) -> OnePlan
     ensures { λ r. ⌜ OneOf room s (dispatchWorkgroups s x y z) r ⌝ }
 {
+    let broken = broken_limits(s);
     let progress = s.progress;
     let phase = progress.phase;
     let c = in_phase(in_compute(phase));
     let none = (x == 0) | ((y == 0) | (z == 0));
-    plan_one(room, s, c, !none, Command::Dispatch(x, y, z))
+    plan_one(room, broken, s, c, !none, Command::Dispatch(x, y, z))
 }
 
 pub fn dispatch_workgroups(
@@ -100,11 +104,13 @@ pub fn plan_dispatch_workgroups_indirect(
 ) -> OnePlan
     ensures { λ r. ⌜ OneOf room s (dispatchIndirect s buffer offset) r ⌝ }
 {
+    let broken = broken_limits(s);
     let progress = s.progress;
     let phase = progress.phase;
     let c = in_phase_with(in_compute(phase), buffer == 0);
     plan_one(
         room,
+        broken,
         s,
         c,
         true,

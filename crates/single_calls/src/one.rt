@@ -3,6 +3,7 @@
 ghost use Prim.Native.Nat.{ℕ, _+_, _<_, _≤_};
 ghost use mathlib.Core.Path.{_≡_};
 ghost use lib.ListN.{length};
+ghost use Rattle.records.specs.Check.{brokenLimits};
 ghost use Rattle.records.specs.declared.command.Command.{Command};
 ghost use Rattle.walks.specs.Fill.{filled};
 ghost use Rattle.calls.specs.Did.{recordOf};
@@ -15,6 +16,7 @@ use calls::judge::list_rooms;
 use calls::judge::spot_of;
 use calls::parts::with_draw;
 use calls::parts::with_progress;
+use records::check::Broken;
 use records::command::Command;
 use records::command::Record;
 use records::outcome::Conditions;
@@ -102,16 +104,23 @@ fn count_of(some: bool) -> usize
 }
 
 // The plan of a call that stays in its phase, leaves the state as it is, and records the command
-// where `some` says so.
-pub fn plan_one(room: usize, s: State, c: Conditions, some: bool, command: Command) -> OnePlan
-    ensures { λ r. ⌜ OneFor room s (listed room s c (length (only some command))) (moved s (length (only some command)) s) (only some command) r ⌝ }
+// where `some` says so. `broken` has the limits that the state breaks.
+pub fn plan_one(
+    room: usize,
+    broken: Broken,
+    s: State,
+    c: Conditions,
+    some: bool,
+    command: Command,
+) -> OnePlan
+    ensures { λ r. ⌜ (broken ≡ brokenLimits s → OneFor room s (listed room s c (length (only some command))) (moved s (length (only some command)) s) (only some command) r) ⌝ }
 {
     let p = s.progress;
     let n = count_of(some);
     let rooms = list_rooms(room);
     let more = commands_only(n);
     let phase = p.phase;
-    let v = judge(rooms, s, c, phase, more);
+    let v = judge(rooms, broken, p, c, phase, more);
     let place = spot_of(v.ok, p.commands, n);
     let outcome = v.outcome;
     let progress = v.progress;

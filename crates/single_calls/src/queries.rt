@@ -16,6 +16,7 @@ use calls::phase::not_closed;
 use calls::phase::run_asks;
 use pass::marks::over_run;
 use pass::marks::query_of;
+use records::check::broken_limits;
 use records::command::Command;
 use records::command::Record;
 use records::pipeline::PrivateCapabilities;
@@ -33,13 +34,14 @@ pub fn plan_begin_query(
 ) -> OnePlan
     ensures { λ r. ⌜ OneOf room s (beginQuery s (record { queries = record { run = now (set .entry); count = count }; target = target }) index) r ⌝ }
 {
+    let broken = broken_limits(s);
     let p = s.progress;
     let phase = p.phase;
     let range = count <= (index as usize);
     let short = over_run(set, count);
     let c = run_asks(not_closed(phase), range, short);
     let query = query_of(set, count, index);
-    plan_one(room, s, c, true, Command::BeginQuery(query, target))
+    plan_one(room, broken, s, c, true, Command::BeginQuery(query, target))
 }
 
 pub fn begin_query(
@@ -69,12 +71,13 @@ pub fn plan_end_query(
 ) -> OnePlan
     ensures { λ r. ⌜ OneOf room s (endQuery s (record { queries = record { run = now (set .entry); count = count }; target = target }) index) r ⌝ }
 {
+    let broken = broken_limits(s);
     let p = s.progress;
     let phase = p.phase;
     let range = count <= (index as usize);
     let short = over_run(set, count);
     let c = run_asks(not_closed(phase), range, short);
-    plan_one(room, s, c, true, Command::EndQuery(target))
+    plan_one(room, broken, s, c, true, Command::EndQuery(target))
 }
 
 pub fn end_query(
@@ -104,13 +107,14 @@ pub fn plan_write_timestamp(
 ) -> OnePlan
     ensures { λ r. ⌜ OneOf room s (writeTimestamp s (record { queries = record { run = now (set .entry); count = count }; target = target }) index) r ⌝ }
 {
+    let broken = broken_limits(s);
     let p = s.progress;
     let phase = p.phase;
     let range = count <= (index as usize);
     let short = over_run(set, count);
     let c = run_asks(not_closed(phase), range, short);
     let query = query_of(set, count, index);
-    plan_one(room, s, c, true, Command::TimestampQuery(query))
+    plan_one(room, broken, s, c, true, Command::TimestampQuery(query))
 }
 
 pub fn write_timestamp(
@@ -141,6 +145,7 @@ pub fn reset_queries(
 ) -> Answer
     ensures { λ r. ⌜ Keeps caps s (reset-queries (record { queries = record { run = now (set .entry); count = count }; target = target }) start end) r ⌝ }
 {
+    let broken = broken_limits(s);
     let p = s.progress;
     let phase = p.phase;
     let range = (end < start) | (count < (end as usize));
@@ -148,7 +153,7 @@ pub fn reset_queries(
     let c = run_asks(not_closed(phase), range, short);
     let rooms = no_rooms();
     let more = nothing();
-    let v = judge(rooms, s, c, phase, more);
+    let v = judge(rooms, broken, p, c, phase, more);
     let progress = v.progress;
     let outcome = v.outcome;
     let state = with_progress(s, progress);

@@ -22,6 +22,7 @@ use numbers::as_i32;
 use numbers::trunc_i32;
 use records::args::RectF32;
 use records::args::RectU32;
+use records::check::broken_limits;
 use records::command::ColorF32;
 use records::command::Command;
 use records::command::DepthRange;
@@ -53,11 +54,19 @@ pub fn plan_set_viewport(
 ) -> OnePlan
     ensures { λ r. ⌜ OneOf room s (setViewport s rect depth) r ⌝ }
 {
+    let broken = broken_limits(s);
     let progress = s.progress;
     let phase = progress.phase;
     let c = in_phase(in_render(phase));
     let rect = viewport_rect(rect);
-    plan_one(room, s, c, true, Command::SetViewport { rect, depth })
+    plan_one(
+        room,
+        broken,
+        s,
+        c,
+        true,
+        Command::SetViewport { rect, depth },
+    )
 }
 
 pub fn set_viewport(
@@ -93,11 +102,12 @@ pub fn plan_set_scissor_rect(
 ) -> OnePlan
     ensures { λ r. ⌜ OneOf room s (setScissorRect s rect) r ⌝ }
 {
+    let broken = broken_limits(s);
     let progress = s.progress;
     let phase = progress.phase;
     let c = in_phase(in_render(phase));
     let rect = scissor_rect(rect);
-    plan_one(room, s, c, true, Command::SetScissor(rect))
+    plan_one(room, broken, s, c, true, Command::SetScissor(rect))
 }
 
 pub fn set_scissor_rect(
@@ -121,10 +131,11 @@ pub fn plan_set_blend_constants(
 ) -> OnePlan
     ensures { λ r. ⌜ OneOf room s (setBlendConstants s color) r ⌝ }
 {
+    let broken = broken_limits(s);
     let progress = s.progress;
     let phase = progress.phase;
     let c = in_phase(in_render(phase));
-    plan_one(room, s, c, true, Command::SetBlendConstant(color))
+    plan_one(room, broken, s, c, true, Command::SetBlendConstant(color))
 }
 
 pub fn set_blend_constants(
@@ -166,13 +177,14 @@ pub fn plan_set_index_buffer(
 ) -> OnePlan
     ensures { λ r. ⌜ OneOf room s (setIndexBuffer s buffer offset format) r ⌝ }
 {
+    let broken = broken_limits(s);
     let p = s.progress;
     let phase = p.phase;
     let d = s.draw;
     let c = in_phase_with(in_render(phase), buffer == 0);
     let rooms = list_rooms(room);
     let more = commands_only(1);
-    let v = judge(rooms, s, c, phase, more);
+    let v = judge(rooms, broken, p, c, phase, more);
     let place = spot_of(v.ok, p.commands, 1);
     let outcome = v.outcome;
     let progress = v.progress;

@@ -4,6 +4,9 @@ use borrow.Author.Needs.{needs}
 use Rattle.single_calls.proofs.dispatches.plan_clear_buffer.Statement.{statement}
 use Rattle.single_calls.proofs.dispatches.plan_clear_buffer.Tie as tie
 
+broken-limits-requires : tie.Need-broken-limits-requires
+broken-limits-requires c κs = search needs
+
 in-open-requires : tie.Need-in-open-requires
 in-open-requires c κs = search needs
 
@@ -15,8 +18,8 @@ plan-one-requires c κs = search needs
 
 returns : tie.Need-returns
 unfolding outcomeOf
-returns c = rw (c .before .in-phase .ensures, c .before .before .in-open .ensures) at (c .plan-one .ensures)
+returns c = rw (c .before .in-phase .ensures, c .before .before .in-open .ensures) at (c .plan-one .ensures (c .before .before .before .before .broken-limits .ensures))
 
 pub plan-clear-buffer-spec : {M : Type 1} → statement M
 plan-clear-buffer-spec =
-    tie.close (tie.spec in-open-requires in-phase-requires plan-one-requires returns)
+    tie.close (tie.spec broken-limits-requires in-open-requires in-phase-requires plan-one-requires returns)

@@ -23,10 +23,12 @@ spot-of-requires c κs = search needs
 
 returns : tie.Need-returns
 returns c =
-    let s = c .before .before .before .before .before .before .before .before .args .s in
-    let cs = only (c .before .before .before .before .before .before .before .before .args .some) (c .before .before .before .before .before .before .before .before .args .command) in
-    let k = found (c .before .before .before .before .before .before .before .before .args .room) s (c .before .before .before .before .before .before .before .before .args .c) (s .progress .phase) cs _ _ _ _ (c .before .before .before .before .before .list-rooms .ensures) (c .before .before .before .before .before .before .count-of .ensures (c .before .before .before .before .before .before .before .before .args .command)) (c .before .before .before .before .commands-only .ensures) (c .before .before .before .judge .ensures) (c .before .before .spot-of .ensures) in
-    ((k .said, same (c .before .before .before .before .before .before .before .before .args .room) s (c .before .before .before .before .before .before .before .before .args .c) (s .progress .phase) cs k _ refl), laid (c .before .before .before .before .before .before .before .before .args .room) s (c .before .before .before .before .before .before .before .before .args .c) (s .progress .phase) cs _ _ _ (k .here) (k .many) (λ h i l. only-at (c .before .before .before .before .before .before .before .before .args .some) (c .before .before .before .before .before .before .before .before .args .command) i l))
+    λ e.
+    let a = c .before .before .before .before .before .before .before .before .args in
+    let s = a .s in
+    let cs = only (a .some) (a .command) in
+    let k = found (a .room) s (a .c) (s .progress .phase) cs _ _ _ _ _ (c .before .before .before .before .before .list-rooms .ensures) e (c .before .before .before .before .before .before .count-of .ensures (a .command)) (c .before .before .before .before .commands-only .ensures) (c .before .before .before .judge .ensures) (c .before .before .spot-of .ensures) in
+    ((k .said, same (a .room) s (a .c) (s .progress .phase) cs k _ refl), laid (a .room) s (a .c) (s .progress .phase) cs _ _ _ (k .here) (k .many) (λ h i l. only-at (a .some) (a .command) i l))
 
 pub plan-one-spec : {M : Type 1} → statement M
 plan-one-spec =

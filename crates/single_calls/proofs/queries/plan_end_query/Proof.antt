@@ -4,6 +4,9 @@ use borrow.Author.Needs.{needs}
 use Rattle.single_calls.proofs.queries.plan_end_query.Statement.{statement}
 use Rattle.single_calls.proofs.queries.plan_end_query.Tie as tie
 
+broken-limits-requires : tie.Need-broken-limits-requires
+broken-limits-requires c κs = search needs
+
 over-run-requires : tie.Need-over-run-requires
 over-run-requires c κs = search needs
 
@@ -18,9 +21,9 @@ plan-one-requires c κs = search needs
 
 returns : tie.Need-returns
 unfolding outcomeOf
-returns c = rw (c .before .run-asks .ensures, c .before .before .not-closed .ensures, c .before .before .before .over-run .ensures) at (c .plan-one .ensures)
+returns c = rw (c .before .run-asks .ensures, c .before .before .not-closed .ensures, c .before .before .before .over-run .ensures) at (c .plan-one .ensures (c .before .before .before .before .before .broken-limits .ensures))
 
 pub plan-end-query-spec : {M : Type 1} → statement M
 plan-end-query-spec =
     tie.close
-    (tie.spec over-run-requires not-closed-requires run-asks-requires plan-one-requires returns)
+    (tie.spec broken-limits-requires over-run-requires not-closed-requires run-asks-requires plan-one-requires returns)

@@ -4,6 +4,9 @@ use borrow.Author.Needs.{needs}
 use Rattle.single_calls.proofs.queries.plan_write_timestamp.Statement.{statement}
 use Rattle.single_calls.proofs.queries.plan_write_timestamp.Tie as tie
 
+broken-limits-requires : tie.Need-broken-limits-requires
+broken-limits-requires c κs = search needs
+
 over-run-requires : tie.Need-over-run-requires
 over-run-requires c κs = search needs
 
@@ -21,12 +24,13 @@ plan-one-requires c κs = search needs
 
 returns : tie.Need-returns
 unfolding outcomeOf
-returns c = rw (c .before .query-of .ensures, c .before .before .run-asks .ensures, c .before .before .before .not-closed .ensures, c .before .before .before .before .over-run .ensures) at (c .plan-one .ensures)
+returns c = rw (c .before .query-of .ensures, c .before .before .run-asks .ensures, c .before .before .before .not-closed .ensures, c .before .before .before .before .over-run .ensures) at (c .plan-one .ensures (c .before .before .before .before .before .before .broken-limits .ensures))
 
 pub plan-write-timestamp-spec : {M : Type 1} → statement M
 plan-write-timestamp-spec =
     tie.close
     (tie.spec
+    broken-limits-requires
     over-run-requires
     not-closed-requires
     run-asks-requires

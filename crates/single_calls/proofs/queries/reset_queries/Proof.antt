@@ -10,6 +10,9 @@ use borrow.Author.Needs.{needs}
 use Rattle.single_calls.proofs.queries.reset_queries.Statement.{statement}
 use Rattle.single_calls.proofs.queries.reset_queries.Tie as tie
 
+broken-limits-requires : tie.Need-broken-limits-requires
+broken-limits-requires c κs = search needs
+
 over-run-requires : tie.Need-over-run-requires
 over-run-requires c κs = search needs
 
@@ -34,10 +37,10 @@ with-progress-requires c κs = search needs
 returns : tie.Need-returns
 unfolding outcomeOf
 returns c =
-    let a = c .before .before .before .before .before .before .before .before .before .before .args in
+    let a = c .before .before .before .before .before .before .before .before .before .before .before .args in
     let set : QuerySet = record { queries = record { run = now (a .set); count = a .count }; target = a .target } in
     let m = resetQueries (a .s) set (a .start) (a .end) in
-    let k = rw (c .before .before .before .before .no-rooms .ensures, c .before .before .before .nothing .ensures, c .before .before .before .before .before .run-asks .ensures, c .before .before .before .before .before .before .not-closed .ensures, c .before .before .before .before .before .before .before .over-run .ensures) at (c .before .before .judge .ensures) in
+    let k = rw (c .before .before .before .before .before .before .before .before .before .broken-limits .ensures, c .before .before .before .before .no-rooms .ensures, c .before .before .before .nothing .ensures, c .before .before .before .before .before .run-asks .ensures, c .before .before .before .before .before .before .not-closed .ensures, c .before .before .before .before .before .before .before .over-run .ensures) at (c .before .before .judge .ensures) in
     keeps-done (a .caps) (a .s) (reset-queries set (a .start) (a .end)) (λ r. refl) refl refl refl _ (k .0)
     (c .with-progress .ensures ∙ stays-put (outcomeOf noRooms (a .s) m) (a .s) _ (progressAfter m) (k .2))
 
@@ -45,6 +48,7 @@ pub reset-queries-spec : {M : Type 1} → statement M
 reset-queries-spec =
     tie.close
     (tie.spec
+    broken-limits-requires
     over-run-requires
     not-closed-requires
     run-asks-requires

@@ -4,6 +4,9 @@ use borrow.Author.Needs.{needs}
 use Rattle.single_calls.proofs.settings.plan_set_blend_constants.Statement.{statement}
 use Rattle.single_calls.proofs.settings.plan_set_blend_constants.Tie as tie
 
+broken-limits-requires : tie.Need-broken-limits-requires
+broken-limits-requires c κs = search needs
+
 in-render-requires : tie.Need-in-render-requires
 in-render-requires c κs = search needs
 
@@ -15,8 +18,8 @@ plan-one-requires c κs = search needs
 
 returns : tie.Need-returns
 unfolding outcomeOf
-returns c = rw (c .before .in-phase .ensures, c .before .before .in-render .ensures) at (c .plan-one .ensures)
+returns c = rw (c .before .in-phase .ensures, c .before .before .in-render .ensures) at (c .plan-one .ensures (c .before .before .before .before .broken-limits .ensures))
 
 pub plan-set-blend-constants-spec : {M : Type 1} → statement M
 plan-set-blend-constants-spec =
-    tie.close (tie.spec in-render-requires in-phase-requires plan-one-requires returns)
+    tie.close (tie.spec broken-limits-requires in-render-requires in-phase-requires plan-one-requires returns)

@@ -18,6 +18,9 @@ use borrow.Author.Needs.{needs}
 use Rattle.single_calls.proofs.settings.plan_set_index_buffer.Statement.{statement}
 use Rattle.single_calls.proofs.settings.plan_set_index_buffer.Tie as tie
 
+broken-limits-requires : tie.Need-broken-limits-requires
+broken-limits-requires c κs = search needs
+
 in-render-requires : tie.Need-in-render-requires
 in-render-requires c κs = search needs
 
@@ -42,12 +45,12 @@ indexed-requires c κs = search needs
 returns : tie.Need-returns
 unfolding outcomeOf
 returns c =
-    let a = c .before .before .before .before .before .before .before .before .before .before .args in
+    let a = c .before .before .before .before .before .before .before .before .before .before .before .args in
     let s = a .s in
     let cs : List Command = SetIndexBuffer (a .buffer) ∷ [] in
     let asks : Conditions =
     record { phase = not (inRender (s .progress .phase)); many = false; range = false; absent = eqb (a .buffer) 0; kind = false; sum = false; room = false } in
-    let k = found (a .room) s asks (s .progress .phase) cs _ _ _ _ (c .before .before .before .before .before .list-rooms .ensures) refl (c .before .before .before .before .commands-only .ensures)
+    let k = found (a .room) s asks (s .progress .phase) cs _ _ _ _ _ (c .before .before .before .before .before .list-rooms .ensures) (c .before .before .before .before .before .before .before .before .before .before .broken-limits .ensures) refl (c .before .before .before .before .commands-only .ensures)
     (rw (c .before .before .before .before .before .before .in-phase-with .ensures, c .before .before .before .before .before .before .before .in-render .ensures) at (c .before .before .before .judge .ensures)) (c .before .before .spot-of .ensures) in
     let new = indexed (a .offset) (a .format) (s .draw) in
     let after = draw-moved _ _ new s _ _ _ _ refl refl (c .indexed .ensures) (k .sure) in (
@@ -59,6 +62,7 @@ pub plan-set-index-buffer-spec : {M : Type 1} → statement M
 plan-set-index-buffer-spec =
     tie.close
     (tie.spec
+    broken-limits-requires
     in-render-requires
     in-phase-with-requires
     list-rooms-requires

@@ -4,6 +4,9 @@ use borrow.Author.Needs.{needs}
 use Rattle.single_calls.proofs.settings.plan_set_scissor_rect.Statement.{statement}
 use Rattle.single_calls.proofs.settings.plan_set_scissor_rect.Tie as tie
 
+broken-limits-requires : tie.Need-broken-limits-requires
+broken-limits-requires c κs = search needs
+
 in-render-requires : tie.Need-in-render-requires
 in-render-requires c κs = search needs
 
@@ -18,9 +21,9 @@ plan-one-requires c κs = search needs
 
 returns : tie.Need-returns
 unfolding outcomeOf
-returns c = rw (c .before .scissor-rect .ensures, c .before .before .in-phase .ensures, c .before .before .before .in-render .ensures) at (c .plan-one .ensures)
+returns c = rw (c .before .scissor-rect .ensures, c .before .before .in-phase .ensures, c .before .before .before .in-render .ensures) at (c .plan-one .ensures (c .before .before .before .before .before .broken-limits .ensures))
 
 pub plan-set-scissor-rect-spec : {M : Type 1} → statement M
 plan-set-scissor-rect-spec =
     tie.close
-    (tie.spec in-render-requires in-phase-requires scissor-rect-requires plan-one-requires returns)
+    (tie.spec broken-limits-requires in-render-requires in-phase-requires scissor-rect-requires plan-one-requires returns)

@@ -4,6 +4,9 @@ use borrow.Author.Needs.{needs}
 use Rattle.single_calls.proofs.settings.plan_set_viewport.Statement.{statement}
 use Rattle.single_calls.proofs.settings.plan_set_viewport.Tie as tie
 
+broken-limits-requires : tie.Need-broken-limits-requires
+broken-limits-requires c κs = search needs
+
 in-render-requires : tie.Need-in-render-requires
 in-render-requires c κs = search needs
 
@@ -18,12 +21,13 @@ plan-one-requires c κs = search needs
 
 returns : tie.Need-returns
 unfolding outcomeOf
-returns c = rw (c .before .viewport-rect .ensures, c .before .before .in-phase .ensures, c .before .before .before .in-render .ensures) at (c .plan-one .ensures)
+returns c = rw (c .before .viewport-rect .ensures, c .before .before .in-phase .ensures, c .before .before .before .in-render .ensures) at (c .plan-one .ensures (c .before .before .before .before .before .broken-limits .ensures))
 
 pub plan-set-viewport-spec : {M : Type 1} → statement M
 plan-set-viewport-spec =
     tie.close
     (tie.spec
+    broken-limits-requires
     in-render-requires
     in-phase-requires
     viewport-rect-requires
