@@ -10,9 +10,8 @@ bind-next : (t : Bool) (new : BindState) (s : State) (p : Progress) → withBind
 bind-next true new s p = refl
 bind-next false new s p = refl
 
-pub bind-moved : (t ok : Bool) (new found : BindState) (s moved x : State) (p : Progress) (b : BindState) → x ≡ withBind b moved → moved ≡ withProgress p s
-    → b ≡ cond ok found (s .bind) → found ≡ new → ok ≡ t → x ≡ withProgress p (cond t (withBind new s) s)
-bind-moved t ok new found s moved x p b e m a f o =
-    e ∙ ap (withBind b) m
-    ∙ ap (λ (y : BindState). withBind y (withProgress p s)) (a ∙ ap (λ (y : BindState). cond ok y (s .bind)) f ∙ ap (λ (y : Bool). cond y new (s .bind)) o)
+pub bind-moved : (t ok : Bool) (new found : BindState) (s : State) (p : Progress) (b : BindState) → b ≡ cond ok found (s .bind) → found ≡ new → ok ≡ t
+    → withBind b (withProgress p s) ≡ withProgress p (cond t (withBind new s) s)
+bind-moved t ok new found s p b a f o =
+    ap (λ (y : BindState). withBind y (withProgress p s)) (a ∙ ap (λ (y : BindState). cond ok y (s .bind)) f ∙ ap (λ (y : Bool). cond y new (s .bind)) o)
     ∙ bind-next t new s p

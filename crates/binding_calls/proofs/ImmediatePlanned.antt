@@ -27,7 +27,7 @@ use Rattle.calls.specs.Step.{setImmediates, outcomeOf}
 use Rattle.calls.proofs.Judged.{neither, none-holds, within, fitting}
 use Rattle.calls.proofs.Plans.{put, moved-or-not}
 use Rattle.binding_calls.specs.declared.sending.Worked.{Worked}
-use Rattle.binding_calls.specs.ImmediatePlans.{Right, WorkedOf, ImmediateOf}
+use Rattle.binding_calls.specs.ImmediatePlans.{Right, WorkedOf, ImmediateOf, withWords}
 use Rattle.binding_calls.proofs.ImmediateJudged.{before, clear, Found, found}
 
 -- what is taken only where a call is carried through, and equal there
@@ -44,9 +44,10 @@ one-taken true n k i e h = (refl, subst (λ (x : ℕ). i < x) e h)
 one-taken false n k i e h = none-below (subst (λ (x : ℕ). i < x) e h)
 
 -- the state with the words that a call leaves
-immediates-next : (t : Bool) (new : ImmediateState) (s : State) (p : Progress) → withImmediates (cond t new (s .immediates)) (withProgress p s) ≡ withProgress p (cond t (withImmediates new s) s)
-immediates-next true new s p = refl
-immediates-next false new s p = refl
+words-next : (t : Bool) (ws : List ℕ) (s : State) (p : Progress)
+    → withImmediates (withWords (cond t ws (s .immediates .words)) (s .immediates)) (withProgress p s) ≡ withProgress p (cond t (withImmediates (withWords ws (s .immediates)) s) s)
+words-next true ws s p = refl
+words-next false ws s p = refl
 
 module _ (room bytes : ℕ) (s : State) (offset : ℕ) (ws : Lent) (w : Worked) (work : WorkedOf (ws .run) (ws .count) (s .immediates) offset (s .progress .bytes) w) where
   abbrev i : ImmediateState
@@ -112,13 +113,12 @@ module _ (room bytes : ℕ) (s : State) (offset : ℕ) (ws : Lent) (w : Worked) 
     abbrev new : ImmediateState
     new = immediatesState i offset (counted ws)
 
-    next-is : (next moved : State) (now : ImmediateState) → next ≡ withImmediates now moved → moved ≡ withProgress progress s → now ≡ cond ok (w .state) i
-        → next ≡ taken outcome (withProgress (grown (s .progress) (s .progress .phase) true-more) (withImmediates new s)) s
-    next-is next moved now a b c =
-        a
-        ∙ ap (withImmediates now) b
-        ∙ ap (λ (y : ImmediateState). withImmediates y (withProgress progress s)) (c ∙ ap (λ (t : Bool). cond t (w .state) i) (k .sure) ∙ taken-same (accepted outcome) (w .state) new i (λ h. carried h .state))
-        ∙ immediates-next (accepted outcome) new s progress
+    next-is : (now : List ℕ) → now ≡ cond ok (w .state .words) (i .words)
+        → withImmediates (withWords now i) (withProgress progress s) ≡ taken outcome (withProgress (grown (s .progress) (s .progress .phase) true-more) (withImmediates new s)) s
+    next-is now c =
+        ap (λ (y : List ℕ). withImmediates (withWords y i) (withProgress progress s))
+        (c ∙ ap (λ (t : Bool). cond t (w .state .words) (i .words)) (k .sure) ∙ taken-same (accepted outcome) (w .state .words) (new .words) (i .words) (λ h. ap (λ (x : ImmediateState). x .words) (carried h .state)))
+        ∙ words-next (accepted outcome) (new .words) s progress
         ∙ ap (λ (q : Progress). withProgress q (taken outcome (withImmediates new s) s)) (k .left)
         ∙ moved-or-not outcome s (withImmediates new s) (grown (s .progress) (s .progress .phase) true-more)
 
@@ -145,15 +145,15 @@ module _ (room bytes : ℕ) (s : State) (offset : ℕ) (ws : Lent) (w : Worked) 
     good-sent : accepted outcome ≡ true → some? badDescriptor (descriptorsOf (w .state)) ≡ false
     good-sent h = ap (λ (x : ImmediateState). some? badDescriptor (descriptorsOf x)) (carried h .state) ∙ good (clear rooms s asks (s .progress .phase) true-more h)
 
-    pub planned : (next moved : State) (now : ImmediateState) (at n place size : ℕ) → next ≡ withImmediates now moved → moved ≡ withProgress progress s → now ≡ cond ok (w .state) i
+    pub planned : (now : List ℕ) (at n place size : ℕ) → now ≡ cond ok (w .state .words) (i .words)
         → (at ≡ cond ok (s .progress .commands) 0) × (n ≡ cond ok (w .n) 0) → (place ≡ cond ok (s .progress .bytes) 0) × (size ≡ cond ok (w .size) 0)
-        → ImmediateOf room bytes s m (record { next = next; batch = record { at = at; n = n; put = place; size = size; state = w .state; placed = w .placed }; outcome = o })
+        → ImmediateOf room bytes s m (record { progress = progress; words = now; batch = record { at = at; n = n; put = place; size = size; state = w .state; placed = w .placed }; outcome = o })
     unfolding outcomeOf
-    planned next moved now at n place size a b c spot byte-spot =
+    planned now at n place size c spot byte-spot =
         let many : n ≡ cond (accepted outcome) (w .n) 0 = spot .1 ∙ sure-is (w .n) 0 in
         let long : size ≡ cond (accepted outcome) (w .size) 0 = byte-spot .1 ∙ sure-is (w .size) 0 in
         record {
-          answered = (k .said, next-is next moved now a b c);
+          answered = (k .said, next-is now c);
           laid =
               put outcome room (s .progress .commands) (m .commands) PopDebugGroup at n _ (λ h. fitting rooms s asks (s .progress .phase) true-more h .commands-fit)
               (spot .0 ∙ sure-is (s .progress .commands) 0) (many ∙ ap (λ (x : ℕ). cond (accepted outcome) x 0) (work .many))

@@ -18,6 +18,7 @@ use Rattle.bindings.specs.Group.{Entry, entriesOf, groupAt, groupCommands, grou
 use Rattle.bindings.specs.Units.{samplerCommands}
 use Rattle.bindings.specs.declared.sweep.Sweep.{Sweep}
 use Rattle.calls.specs.Meaning.{Meaning, inPass}
+use Rattle.calls.specs.Parts.{withBind, withProgress}
 use Rattle.calls.specs.Planned.{Right}
 use Rattle.binding_calls.specs.declared.grouped.Grouped.{Grouped}
 use Rattle.binding_calls.specs.declared.grouped.GroupPlan.{GroupPlan}
@@ -59,9 +60,13 @@ GroupAllowed run b i = (i < length (groupedCommands run b)) × GroupSound run b
 abbrev pub groupedAt : List ℕ → Grouped → ℕ → Command
 groupedAt run b i = getD (groupedCommands run b) i PopDebugGroup
 
+-- the state that a plan leaves
+abbrev pub groupNext : GroupPlan → State → State
+groupNext p s = withBind (p .after) (withProgress (p .progress) s)
+
 -- the plan is right for a call with this meaning
 abbrev pub GroupOf : List ℕ → ℕ → State → Meaning → GroupPlan → Type 0
-GroupOf run room s m p = Right room s m (p .outcome) (p .next) (p .batch .at) (p .batch .n) (groupedAt run (p .batch)) (GroupAllowed run (p .batch))
+GroupOf run room s m p = Right room s m (p .outcome) (groupNext p s) (p .batch .at) (p .batch .n) (groupedAt run (p .batch)) (GroupAllowed run (p .batch))
 
-abbrev pub groupAnswer : GroupPlan → Answer
-groupAnswer p = record { outcome = p .outcome; state = p .next }
+abbrev pub groupAnswer : GroupPlan → State → Answer
+groupAnswer p s = record { outcome = p .outcome; state = groupNext p s }

@@ -14,6 +14,7 @@ use Rattle.records.specs.declared.state.State.{State}
 use Rattle.bindings.specs.Immediates.{descriptorsOf, immediatesState, immediateCommands, immediateBytes, immediatesOutOfRange}
 use Rattle.bindings.specs.Placed.{placesOf}
 use Rattle.calls.specs.Meaning.{Meaning}
+use Rattle.calls.specs.Parts.{withImmediates, withProgress}
 use Rattle.calls.specs.Planned.{byteRooms, Put, Laid, Answered, stateIn}
 use Rattle.calls.specs.Step.{outcomeOf}
 use Rattle.binding_calls.specs.declared.sending.Worked.{Worked}
@@ -63,13 +64,21 @@ BytesFit p room = (p .batch .put + p .batch .size ≤ room) × ((i : ℕ) → i 
 abbrev pub bytesSent : ImmediatePlan → List ℕ → List ℕ
 bytesSent p bytes = filled (byteAt (p .batch)) bytes (p .batch .put) (p .batch .size)
 
+-- the immediates with other words
+abbrev pub withWords : List ℕ → ImmediateState → ImmediateState
+withWords ws i = record { descs = i .descs; count = i .count; words = ws }
+
+-- the state that a plan leaves
+abbrev pub immediateNext : ImmediatePlan → State → State
+immediateNext p s = withImmediates (withWords (p .words) (s .immediates)) (withProgress (p .progress) s)
+
 -- right for a call with this meaning, with so much room in the list and in the marker bytes
 pub record ImmediateOf (room bytes : ℕ) (s : State) (m : Meaning) (p : ImmediatePlan) : Type 0 where
-  pub answered : Answered s (outcomeOf (byteRooms room bytes) s m) (stateIn m) (p .outcome) (p .next)
+  pub answered : Answered s (outcomeOf (byteRooms room bytes) s m) (stateIn m) (p .outcome) (immediateNext p s)
   pub laid : Laid room s (outcomeOf (byteRooms room bytes) s m) (m .commands) (p .batch .at) (p .batch .n) (sentAt (p .batch))
   pub put : Put bytes (s .progress .bytes) (outcomeOf (byteRooms room bytes) s m) (m .bytes) 0 (p .batch .put) (p .batch .size) (byteAt (p .batch))
   pub commands : (i : ℕ) → i < p .batch .n → SendAllowed (p .batch) i
   pub sent : (i : ℕ) → i < p .batch .size → ByteAllowed (p .batch) i
 
-abbrev pub immediateAnswer : ImmediatePlan → Answer
-immediateAnswer p = record { outcome = p .outcome; state = p .next }
+abbrev pub immediateAnswer : ImmediatePlan → State → Answer
+immediateAnswer p s = record { outcome = p .outcome; state = immediateNext p s }

@@ -7,6 +7,8 @@ ghost use Rattle.walks.specs.Fill.{filled};
 ghost use Rattle.calls.specs.Did.{recordOf};
 ghost use Rattle.binding_calls.specs.Grouped.{GroupAllowed, groupedAt, groupAnswer};
 use bindings::group_command::bind_group_command_at;
+use calls::parts::with_bind;
+use calls::parts::with_progress;
 use records::binding::BindGroup;
 use records::binding::GroupEntries;
 use records::binding::PipelineLayout;
@@ -15,6 +17,7 @@ use records::command::Record;
 use records::outcome::Outcome;
 use records::state::Answer;
 use records::state::BindState;
+use records::state::Progress;
 use records::state::State;
 
 // Where the commands go and how many they are, what the call was handed, how many of the commands
@@ -32,8 +35,10 @@ pub struct Grouped {
     pub units: u32,
 }
 
+// `after` is the bind state that the call leaves.
 pub struct GroupPlan {
-    pub next: State,
+    pub progress: Progress,
+    pub after: BindState,
     pub batch: Grouped,
     pub outcome: Outcome,
 }
@@ -90,21 +95,21 @@ fn group_count(batch: Grouped) -> usize
     batch.n
 }
 
-pub fn group_answer(plan: GroupPlan) -> Answer
-    ensures { λ r. ⌜ r ≡ groupAnswer plan ⌝ }
+pub fn group_answer(plan: GroupPlan, s: State) -> Answer
+    ensures { λ r. ⌜ r ≡ groupAnswer plan s ⌝ }
 {
-    let state = plan.next;
     let outcome = plan.outcome;
+    let moved = with_progress(s, plan.progress);
+    let state = with_bind(moved, plan.after);
     Answer { outcome, state }
 }
 
-pub fn commit_group(list: &mut [Record], offsets: &[u32], plan: GroupPlan) -> Answer
+pub fn record_group(list: &mut [Record], offsets: &[u32], plan: GroupPlan)
     requires { ⌜ (plan .batch .at + plan .batch .n ≤ length (now list)) × ((i : ℕ) → i < plan .batch .n → GroupAllowed (now offsets) (plan .batch) i) ⌝ }
-    ensures { λ r. ⌜ (r ≡ groupAnswer plan) × (now (list .exit) ≡ filled (λ i. recordOf (groupedAt (now (offsets .entry)) (plan .batch) i)) (now (list .entry)) (plan .batch .at) (plan .batch .n)) ⌝ }
+    ensures { λ _. ⌜ now (list .exit) ≡ filled (λ i. recordOf (groupedAt (now (offsets .entry)) (plan .batch) i)) (now (list .entry)) (plan .batch .at) (plan .batch .n) ⌝ }
 {
     let batch = group_batch(plan);
     let at = group_place(batch);
     let n = group_count(batch);
     fill_group(list, offsets, at, n, batch);
-    group_answer(plan)
 }

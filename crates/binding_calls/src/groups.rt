@@ -12,7 +12,8 @@ ghost use Rattle.calls.specs.Step.{setBindGroup};
 ghost use Rattle.binding_calls.specs.Grouped.{GroupOf, groupAsks};
 use crate::grouped::GroupPlan;
 use crate::grouped::Grouped;
-use crate::grouped::commit_group;
+use crate::grouped::group_answer;
+use crate::grouped::record_group;
 use bindings::group::group_at;
 use bindings::group::group_too_many;
 use bindings::sweep::Sweep;
@@ -22,13 +23,12 @@ use calls::judge::commands_only;
 use calls::judge::judge;
 use calls::judge::list_rooms;
 use calls::judge::spot_of;
-use calls::parts::with_bind;
-use calls::parts::with_progress;
 use calls::phase::in_pass;
 use pass::marks::over_run;
 use records::binding::BindGroup;
 use records::binding::GroupEntries;
 use records::binding::PipelineLayout;
+use records::check::broken_limits;
 use records::command::Record;
 use records::outcome::Conditions;
 use records::pipeline::PrivateCapabilities;
@@ -101,15 +101,15 @@ pub fn plan_set_bind_group(
     let c = group_asks(phase, layout, index, group, sweep, short);
     let rooms = list_rooms(room);
     let more = commands_only(n);
-    let v = judge(rooms, s, c, phase, more);
+    let broken = broken_limits(s);
+    let v = judge(rooms, broken, p, c, phase, more);
     let place = spot_of(v.ok, p.commands, n);
     let progress = v.progress;
     let outcome = v.outcome;
     let after = taken_bind(v.ok, bind, old);
-    let moved = with_progress(s, progress);
-    let next = with_bind(moved, after);
     GroupPlan {
-        next,
+        progress,
+        after,
         batch: Grouped {
             at: place.at,
             n: place.n,
@@ -150,5 +150,6 @@ pub fn set_bind_group(
         entries,
         group,
     );
-    commit_group(list, offsets, plan)
+    record_group(list, offsets, plan);
+    group_answer(plan, s)
 }

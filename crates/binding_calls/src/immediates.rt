@@ -1,8 +1,9 @@
 // `set_immediates`. The contract cites Call.antt and Did.antt of `calls`.
 ghost use Rattle.calls.specs.Call.{set-immediates};
 ghost use Rattle.calls.specs.Did.{Marks};
-use crate::sending::commit_immediates;
 use crate::sending::plan_set_immediates;
+use crate::sending::record_immediates;
+use crate::sending::sent_answer;
 use crate::sending::write_bytes;
 use records::command::Record;
 use records::pipeline::PrivateCapabilities;
@@ -23,5 +24,6 @@ pub fn set_immediates(
 {
     let plan = plan_set_immediates(words, list.len(), bytes.len(), count, caps, s, offset);
     write_bytes(bytes, words, plan);
-    commit_immediates(list, plan)
+    record_immediates(list, plan);
+    sent_answer(plan, s)
 }

@@ -22,16 +22,19 @@ use calls::parts::with_immediates;
 use calls::parts::with_progress;
 use calls::phase::in_pass;
 use pass::marks::over_run;
+use records::check::broken_limits;
 use records::check::within;
 use records::command::Command;
 use records::command::Record;
 use records::limits::MAX_BYTES;
+use records::limits::MAX_IMMEDIATES;
 use records::limits::MAX_IMMEDIATES_COMMANDS;
 use records::outcome::Conditions;
 use records::outcome::Outcome;
 use records::pipeline::PrivateCapabilities;
 use records::state::Answer;
 use records::state::ImmediateState;
+use records::state::Progress;
 use records::state::State;
 
 // What a call sends: the state with its words written, the places of the descriptors' bytes, how
@@ -53,8 +56,10 @@ pub struct Sending {
     pub placed: Placed,
 }
 
+// `words` are those that the call leaves.
 pub struct ImmediatePlan {
-    pub next: State,
+    pub progress: Progress,
+    pub words: [u32; MAX_IMMEDIATES],
     pub batch: Sending,
     pub outcome: Outcome,
 }
@@ -98,23 +103,26 @@ fn sent_count(batch: Sending) -> usize
     batch.n
 }
 
-pub fn sent_answer(plan: ImmediatePlan) -> Answer
-    ensures { λ r. ⌜ r ≡ immediateAnswer plan ⌝ }
+pub fn sent_answer(plan: ImmediatePlan, s: State) -> Answer
+    ensures { λ r. ⌜ r ≡ immediateAnswer plan s ⌝ }
 {
-    let state = plan.next;
     let outcome = plan.outcome;
+    let words = plan.words;
+    let mut immediates = s.immediates;
+    immediates.words = words;
+    let moved = with_progress(s, plan.progress);
+    let state = with_immediates(moved, immediates);
     Answer { outcome, state }
 }
 
-pub fn commit_immediates(list: &mut [Record], plan: ImmediatePlan) -> Answer
+pub fn record_immediates(list: &mut [Record], plan: ImmediatePlan)
     requires { ⌜ (plan .batch .at + plan .batch .n ≤ length (now list)) × ((i : ℕ) → i < plan .batch .n → SendAllowed (plan .batch) i) ⌝ }
-    ensures { λ r. ⌜ (r ≡ immediateAnswer plan) × (now (list .exit) ≡ filled (λ i. recordOf (sentAt (plan .batch) i)) (now (list .entry)) (plan .batch .at) (plan .batch .n)) ⌝ }
+    ensures { λ _. ⌜ now (list .exit) ≡ filled (λ i. recordOf (sentAt (plan .batch) i)) (now (list .entry)) (plan .batch .at) (plan .batch .n) ⌝ }
 {
     let batch = sent_batch(plan);
     let at = sent_at(batch);
     let n = sent_count(batch);
     fill_sent(list, at, n, batch);
-    sent_answer(plan)
 }
 
 // The bytes of the plan. The words are not read: the plan has them.
@@ -167,7 +175,11 @@ fn immediate_asks(allowed: bool, range: bool, short: bool) -> Conditions
 }
 
 // The new words, or what they were.
-fn taken_immediates(ok: bool, new: ImmediateState, old: ImmediateState) -> ImmediateState
+fn taken_words(
+    ok: bool,
+    new: [u32; MAX_IMMEDIATES],
+    old: [u32; MAX_IMMEDIATES],
+) -> [u32; MAX_IMMEDIATES]
     ensures { λ r. ⌜ r ≡ cond ok new old ⌝ }
 {
     if ok {
@@ -202,16 +214,18 @@ pub fn plan_set_immediates(
         bytes: w.size,
         queries: 0,
     };
-    let v = judge(rooms, s, c, phase, more);
+    let broken = broken_limits(s);
+    let v = judge(rooms, broken, p, c, phase, more);
     let place = spot_of(v.ok, p.commands, w.n);
     let put = spot_of(v.ok, p.bytes, w.size);
     let outcome = v.outcome;
     let progress = v.progress;
-    let immediates = taken_immediates(v.ok, state, old);
-    let moved = with_progress(s, progress);
-    let next = with_immediates(moved, immediates);
+    let new = state.words;
+    let kept = old.words;
+    let words = taken_words(v.ok, new, kept);
     ImmediatePlan {
-        next,
+        progress,
+        words,
         batch: Sending {
             at: place.at,
             n: place.n,

@@ -19,6 +19,7 @@ use Rattle.draw_calls.specs.declared.drawn.Drawn.{Drawn}
 use Rattle.draw_calls.specs.declared.drawn.DrawPlan.{DrawPlan}
 use Rattle.calls.specs.Draws.{indirectOver}
 use Rattle.calls.specs.Meaning.{Meaning}
+use Rattle.calls.specs.Parts.{withProgress, withVertex}
 use Rattle.calls.specs.Planned.{Right}
 
 -- a draw's own commands: one, or as many as its count, 16 or 20 bytes apart
@@ -44,7 +45,7 @@ pub record Sound (b : Drawn) : Type 0 where
   pub own-fits : ownOver (b .own) ≡ false
   pub own-small : length (ownCommands (b .own)) < 2 ^ 32
 
--- the vertex part after a draw: its dirty mask, and the instance that its slots were moved on by
+-- the vertex part with another dirty mask and active first instance
 abbrev pub stepped : VertexState → ℕ → ℕ → VertexState
 stepped v dirty w =
     record {
@@ -65,8 +66,12 @@ DrawAllowed b i = (i < length (drawnCommands b)) × Sound b
 abbrev pub drawnAt : Drawn → ℕ → Command
 drawnAt b i = getD (drawnCommands b) i PopDebugGroup
 
-abbrev pub DrawOf : ℕ → State → Meaning → DrawPlan → Type 0
-DrawOf room s m p = Right room s m (p .outcome) (p .next) (p .batch .at) (p .batch .n) (drawnAt (p .batch)) (DrawAllowed (p .batch))
+-- the state that a plan leaves
+abbrev pub drawNext : DrawPlan → State → State
+drawNext p s = withVertex (stepped (s .vertex) (p .dirty) (p .instance)) (withProgress (p .progress) s)
 
-abbrev pub drawAnswer : DrawPlan → Answer
-drawAnswer p = record { outcome = p .outcome; state = p .next }
+abbrev pub DrawOf : ℕ → State → Meaning → DrawPlan → Type 0
+DrawOf room s m p = Right room s m (p .outcome) (drawNext p s) (p .batch .at) (p .batch .n) (drawnAt (p .batch)) (DrawAllowed (p .batch))
+
+abbrev pub drawAnswer : DrawPlan → State → Answer
+drawAnswer p s = record { outcome = p .outcome; state = drawNext p s }

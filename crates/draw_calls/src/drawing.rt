@@ -1,7 +1,8 @@
-// The plan of a draw: its slots prepared, its conditions, its place in the list, the next state.
+// The plan of a draw: its slots prepared, its conditions, its place in the list, what it changes.
 ghost use mathlib.Core.Path.{_≡_};
 ghost use mathlib.Core.Bool.{cond, false as no};
-ghost use Rattle.draw_calls.specs.Drawn.{ownCommands, ownOver, stepped as steppedOf, DrawOf};
+ghost use Rattle.records.specs.Check.{brokenLimits};
+ghost use Rattle.draw_calls.specs.Drawn.{ownCommands, ownOver, DrawOf};
 ghost use Rattle.calls.specs.Step.{drawing};
 use crate::drawn::DrawPlan;
 use crate::drawn::Drawn;
@@ -11,13 +12,11 @@ use calls::judge::commands_only;
 use calls::judge::judge;
 use calls::judge::list_rooms;
 use calls::judge::spot_of;
-use calls::parts::with_progress;
-use calls::parts::with_vertex;
 use calls::phase::in_render;
+use records::check::Broken;
 use records::outcome::Conditions;
 use records::pipeline::PrivateCapabilities;
 use records::state::State;
-use records::state::VertexState;
 use slots::prepare::prepare;
 
 fn pick(ok: bool, new: u32, old: u32) -> u32
@@ -26,28 +25,19 @@ fn pick(ok: bool, new: u32, old: u32) -> u32
     if ok { new } else { old }
 }
 
-// The vertex part after a draw, or as it was.
-fn stepped(ok: bool, v: VertexState, dirty: u32, w: u32) -> VertexState
-    ensures { λ r. ⌜ r ≡ cond ok (steppedOf v dirty w) v ⌝ }
-{
-    let mut next = v;
-    next.dirty_vbuf_mask = pick(ok, dirty, v.dirty_vbuf_mask);
-    next.active_first_instance = pick(ok, w, v.active_first_instance);
-    next
-}
-
-// A draw whose slots are moved on by instance w. `absent` and `over` are conditions 4 and 6 of its
-// own commands.
+// A draw whose slots are moved on by instance w, in a state that breaks the limits `broken`.
+// `absent` and `over` are conditions 4 and 6 of its own commands.
 pub fn plan_drawing(
     room: usize,
     caps: PrivateCapabilities,
+    broken: Broken,
     s: State,
     w: u32,
     absent: bool,
     over: bool,
     own: Own,
 ) -> DrawPlan
-    ensures { λ r. ⌜ ((over ≡ no → ownOver own ≡ no) → DrawOf room s (drawing caps s w absent over (ownCommands own)) r) ⌝ }
+    ensures { λ r. ⌜ (broken ≡ brokenLimits s → (over ≡ no → ownOver own ≡ no) → DrawOf room s (drawing caps s w absent over (ownCommands own)) r) ⌝ }
 {
     let p = s.progress;
     let phase = p.phase;
@@ -65,15 +55,16 @@ pub fn plan_drawing(
         sum: ready.over | over,
         room: false,
     };
-    let v = judge(rooms, s, c, phase, more);
+    let v = judge(rooms, broken, p, c, phase, more);
     let place = spot_of(v.ok, p.commands, n);
     let progress = v.progress;
     let outcome = v.outcome;
-    let after = stepped(v.ok, vertex, ready.dirty, w);
-    let moved = with_progress(s, progress);
-    let next = with_vertex(moved, after);
+    let dirty = pick(v.ok, ready.dirty, vertex.dirty_vbuf_mask);
+    let instance = pick(v.ok, w, vertex.active_first_instance);
     DrawPlan {
-        next,
+        progress,
+        dirty,
+        instance,
         batch: Drawn {
             at: place.at,
             n: place.n,

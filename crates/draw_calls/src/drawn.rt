@@ -7,13 +7,16 @@ ghost use lib.ListN.{length};
 ghost use Rattle.walks.specs.Fill.{filled};
 ghost use Rattle.slots.specs.Place.{Stands};
 ghost use Rattle.calls.specs.Did.{recordOf};
-ghost use Rattle.draw_calls.specs.Drawn.{ownCommands, ownOver, DrawAllowed, drawnAt, drawAnswer};
+ghost use Rattle.draw_calls.specs.Drawn.{ownCommands, ownOver, stepped as steppedOf, DrawAllowed, drawnAt, drawAnswer};
+use calls::parts::with_progress;
+use calls::parts::with_vertex;
 use records::command::Command;
 use records::command::OptionU32;
 use records::command::Record;
 use records::outcome::Outcome;
 use records::pipeline::PrivateCapabilities;
 use records::state::Answer;
+use records::state::Progress;
 use records::state::State;
 use records::state::VertexState;
 use slots::command::command_at;
@@ -51,8 +54,12 @@ pub struct Drawn {
     pub own: Own,
 }
 
+// The progress, the dirty mask and the active first instance after the call: the old ones where it
+// is refused.
 pub struct DrawPlan {
-    pub next: State,
+    pub progress: Progress,
+    pub dirty: u32,
+    pub instance: u32,
     pub batch: Drawn,
     pub outcome: Outcome,
 }
@@ -173,21 +180,34 @@ fn drawn_count(batch: Drawn) -> usize
     batch.n
 }
 
-pub fn draw_answer(plan: DrawPlan) -> Answer
-    ensures { λ r. ⌜ r ≡ drawAnswer plan ⌝ }
+// The vertex part with this dirty mask and active first instance.
+fn stepped(v: VertexState, dirty: u32, w: u32) -> VertexState
+    ensures { λ r. ⌜ r ≡ steppedOf v dirty w ⌝ }
 {
-    let state = plan.next;
+    let mut next = v;
+    next.dirty_vbuf_mask = dirty;
+    next.active_first_instance = w;
+    next
+}
+
+pub fn draw_answer(plan: DrawPlan, s: State) -> Answer
+    ensures { λ r. ⌜ r ≡ drawAnswer plan s ⌝ }
+{
     let outcome = plan.outcome;
+    let progress = plan.progress;
+    let vertex = s.vertex;
+    let after = stepped(vertex, plan.dirty, plan.instance);
+    let moved = with_progress(s, progress);
+    let state = with_vertex(moved, after);
     Answer { outcome, state }
 }
 
-pub fn commit_drawn(list: &mut [Record], plan: DrawPlan) -> Answer
+pub fn record_drawn(list: &mut [Record], plan: DrawPlan)
     requires { ⌜ (plan .batch .at + plan .batch .n ≤ length (now list)) × ((i : ℕ) → i < plan .batch .n → DrawAllowed (plan .batch) i) ⌝ }
-    ensures { λ r. ⌜ (r ≡ drawAnswer plan) × (now (list .exit) ≡ filled (λ i. recordOf (drawnAt (plan .batch) i)) (now (list .entry)) (plan .batch .at) (plan .batch .n)) ⌝ }
+    ensures { λ _. ⌜ now (list .exit) ≡ filled (λ i. recordOf (drawnAt (plan .batch) i)) (now (list .entry)) (plan .batch .at) (plan .batch .n) ⌝ }
 {
     let batch = drawn_batch(plan);
     let at = drawn_at(batch);
     let n = drawn_count(batch);
     fill_drawn(list, at, n, batch);
-    draw_answer(plan)
 }

@@ -10,7 +10,9 @@ ghost use Rattle.calls.specs.Step.{drawCall, drawIndexed, drawIndirect, drawInd
 use crate::drawing::plan_drawing;
 use crate::drawn::DrawPlan;
 use crate::drawn::Own;
-use crate::drawn::commit_drawn;
+use crate::drawn::draw_answer;
+use crate::drawn::record_drawn;
+use records::check::broken_limits;
 use records::command::Command;
 use records::command::Record;
 use records::pipeline::PrivateCapabilities;
@@ -31,6 +33,7 @@ pub fn plan_draw(
 ) -> DrawPlan
     ensures { λ r. ⌜ DrawOf room s (drawCall caps s «first_vertex» «vertex_count» «first_instance» «instance_count») r ⌝ }
 {
+    let broken = broken_limits(s);
     let d = s.draw;
     let location = d.first_instance_location;
     let w = working(caps, first_instance);
@@ -42,7 +45,7 @@ pub fn plan_draw(
         instance_count,
         first_instance_location: location,
     });
-    plan_drawing(room, caps, s, w, false, false, own)
+    plan_drawing(room, caps, broken, s, w, false, false, own)
 }
 
 pub fn draw(
@@ -65,7 +68,8 @@ pub fn draw(
         first_instance,
         instance_count,
     );
-    commit_drawn(list, plan)
+    record_drawn(list, plan);
+    draw_answer(plan, s)
 }
 
 fn index_type(format: IndexFormat) -> u32
@@ -121,6 +125,7 @@ pub fn plan_draw_indexed(
 ) -> DrawPlan
     ensures { λ r. ⌜ DrawOf room s (drawIndexed caps s «first_index» «index_count» «base_vertex» «first_instance» «instance_count») r ⌝ }
 {
+    let broken = broken_limits(s);
     let d = s.draw;
     let location = d.first_instance_location;
     let format = d.index_format;
@@ -136,7 +141,7 @@ pub fn plan_draw_indexed(
         instance_count,
         first_instance_location: location,
     });
-    plan_drawing(room, caps, s, w, false, over, own)
+    plan_drawing(room, caps, broken, s, w, false, over, own)
 }
 
 pub fn draw_indexed(
@@ -161,7 +166,8 @@ pub fn draw_indexed(
         first_instance,
         instance_count,
     );
-    commit_drawn(list, plan)
+    record_drawn(list, plan);
+    draw_answer(plan, s)
 }
 
 // Whether the offset of the last of `count` records of `size` bytes leaves its field.
@@ -192,6 +198,7 @@ pub fn plan_draw_indirect(
 ) -> DrawPlan
     ensures { λ r. ⌜ DrawOf room s (drawIndirect caps s buffer offset «draw_count») r ⌝ }
 {
+    let broken = broken_limits(s);
     let d = s.draw;
     let location = d.first_instance_location;
     let absent = indirect_absent(buffer, draw_count);
@@ -203,7 +210,7 @@ pub fn plan_draw_indirect(
         location,
         count: draw_count,
     };
-    plan_drawing(room, caps, s, 0, absent, over, own)
+    plan_drawing(room, caps, broken, s, 0, absent, over, own)
 }
 
 pub fn draw_indirect(
@@ -217,7 +224,8 @@ pub fn draw_indirect(
     ensures { λ r. ⌜ Lists caps s (draw-indirect buffer offset «draw_count») (now (list .entry)) r (now (list .exit)) ⌝ }
 {
     let plan = plan_draw_indirect(list.len(), caps, s, buffer, offset, draw_count);
-    commit_drawn(list, plan)
+    record_drawn(list, plan);
+    draw_answer(plan, s)
 }
 
 pub fn plan_draw_indexed_indirect(
@@ -230,6 +238,7 @@ pub fn plan_draw_indexed_indirect(
 ) -> DrawPlan
     ensures { λ r. ⌜ DrawOf room s (drawIndexedIndirect caps s buffer offset «draw_count») r ⌝ }
 {
+    let broken = broken_limits(s);
     let d = s.draw;
     let location = d.first_instance_location;
     let format = d.index_format;
@@ -243,7 +252,7 @@ pub fn plan_draw_indexed_indirect(
         location,
         count: draw_count,
     };
-    plan_drawing(room, caps, s, 0, absent, over, own)
+    plan_drawing(room, caps, broken, s, 0, absent, over, own)
 }
 
 pub fn draw_indexed_indirect(
@@ -257,5 +266,6 @@ pub fn draw_indexed_indirect(
     ensures { λ r. ⌜ Lists caps s (draw-indexed-indirect buffer offset «draw_count») (now (list .entry)) r (now (list .exit)) ⌝ }
 {
     let plan = plan_draw_indexed_indirect(list.len(), caps, s, buffer, offset, draw_count);
-    commit_drawn(list, plan)
+    record_drawn(list, plan);
+    draw_answer(plan, s)
 }

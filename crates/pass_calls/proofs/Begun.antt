@@ -5,8 +5,9 @@ use mathlib.Core.List.{List, []}
 use mathlib.Core.Path.{_≡_, refl, ap, _∙_, subst}
 use lib.ListN.{length, getD}
 use Rattle.walks.specs.Fill.{filled}
-use Rattle.records.specs.Check.{stateConditions}
+use Rattle.records.specs.Check.{brokenLimits, stateConditions}
 use Rattle.records.specs.Outcome.{accepted}
+use Rattle.records.specs.declared.check.Broken.{Broken}
 use Rattle.records.specs.declared.check.Rooms.{Rooms}
 use Rattle.records.specs.declared.command.Command.{Command}
 use Rattle.records.specs.declared.command.Command.the-variants.{PopDebugGroup}
@@ -21,7 +22,7 @@ use Rattle.records.specs.declared.state.Progress.{Progress}
 use Rattle.records.specs.declared.state.State.{State}
 use Rattle.calls.specs.Call.{Call}
 use Rattle.calls.specs.Did.{Marks, recordOf}
-use Rattle.calls.specs.Judge.{grown, judged, taken}
+use Rattle.calls.specs.Judge.{grown, judged, judgedBy, taken}
 use Rattle.calls.specs.Parts.{withProgress, withPass}
 use Rattle.calls.specs.Planned.{byteRooms, Put, Laid, Answered, stateIn}
 use Rattle.calls.specs.Step.{meaning, outcomeOf}
@@ -29,6 +30,7 @@ use Rattle.calls.proofs.Judged.{neither, none-holds, fitting}
 use Rattle.calls.proofs.Listed.{marks-done, numbers-put}
 use Rattle.calls.proofs.Plans.{put, moved-or-not}
 use Rattle.pass_calls.proofs.Labels.{none-below}
+use Rattle.pass_calls.proofs.Moved.{pass-or-not}
 use Rattle.pass_calls.specs.declared.marked.Marked.{Marked}
 use Rattle.pass_calls.specs.Marked.{marks, markedOutcome, MarkedOf}
 
@@ -52,19 +54,21 @@ marked-is {room} {bytes} {s} {c} {c′} {phase} {n} {n′} {size} {size′} {pas
     (subst (λ (x : Conditions). MarkedOf room bytes s x phase n size pass m) e k)))
 
 -- ---- the verdict, as a plan works it out
-pub marked : (room bytes : ℕ) (s : State) (c : Conditions) (phase : Phase) (n size : ℕ) (pass : PassState) (m : Marked) (rooms : Rooms) (ok : Bool) (p : Progress) → rooms ≡ byteRooms room bytes
-    → (m .outcome ≡ judged rooms s c phase (marks n size)) × (ok ≡ accepted (judged rooms s c phase (marks n size))) × (p ≡ taken (judged rooms s c phase (marks n size)) (grown (s .progress) phase (marks n size)) (s .progress))
+pub marked : (room bytes : ℕ) (s : State) (c : Conditions) (phase : Phase) (n size : ℕ) (pass : PassState) (m : Marked) (rooms : Rooms) (b : Broken) (ok : Bool) → rooms ≡ byteRooms room bytes → b ≡ brokenLimits s
+    → (m .outcome ≡ judgedBy rooms b (s .progress) c phase (marks n size)) × (ok ≡ accepted (judgedBy rooms b (s .progress) c phase (marks n size)))
+    × (m .progress ≡ taken (judgedBy rooms b (s .progress) c phase (marks n size)) (grown (s .progress) phase (marks n size)) (s .progress))
     → (m .at ≡ cond ok (s .progress .commands) 0) × (m .n ≡ cond ok n 0) → (m .put ≡ cond ok (s .progress .bytes) 0) × (m .size ≡ cond ok size 0)
-    → m .next ≡ withProgress p (cond ok (withPass pass s) s) → MarkedOf room bytes s c phase n size pass m
-marked room bytes s c phase n size pass m rooms ok p r v w x y =
+    → m .pass ≡ cond ok pass (s .pass) → MarkedOf room bytes s c phase n size pass m
+marked room bytes s c phase n size pass m rooms b ok r h v w x y =
     let o : Outcome = markedOutcome room bytes s c phase n size in
     let g : Progress = grown (s .progress) phase (marks n size) in
-    let same : judged rooms s c phase (marks n size) ≡ o = rw r in
+    let same : judgedBy rooms b (s .progress) c phase (marks n size) ≡ o = rw (r, h) in
     let sure : ok ≡ accepted o = v .1 ∙ ap accepted same in
     record {
       said = v .0 ∙ same;
       left =
-          y ∙ ap (λ (q : Progress). withProgress q (cond ok (withPass pass s) s)) (v .2 ∙ ap (λ (z : Outcome). taken z g (s .progress)) same)
+          ap (λ (p : PassState). withPass p (withProgress (m .progress) s)) y ∙ pass-or-not ok pass s (m .progress)
+          ∙ ap (λ (q : Progress). withProgress q (cond ok (withPass pass s) s)) (v .2 ∙ ap (λ (z : Outcome). taken z g (s .progress)) same)
           ∙ ap (λ (t : Bool). withProgress (taken o g (s .progress)) (cond t (withPass pass s) s)) sure
           ∙ moved-or-not o s (withPass pass s) g;
       here = w .0 ∙ ap (λ (t : Bool). cond t (s .progress .commands) 0) sure;
@@ -80,7 +84,7 @@ module _ (room bytes : ℕ) (s : State) (c : Conditions) (phase : Phase) (cs : L
 
   pub begun : MarkedOf room bytes s c phase (length cs) (length bs) pass m → (f : ℕ → Command) (g : ℕ → ℕ)
       → (accepted o ≡ true → (i : ℕ) → i < length cs → f i ≡ getD cs i PopDebugGroup) → ((i : ℕ) → i < length bs → g i ≡ getD bs i 0)
-      → Answered s o (withProgress (grown (s .progress) phase (marks (length cs) (length bs))) (withPass pass s)) (m .outcome) (m .next)
+      → Answered s o (withProgress (grown (s .progress) phase (marks (length cs) (length bs))) (withPass pass s)) (m .outcome) (withPass (m .pass) (withProgress (m .progress) s))
       × Laid room s o cs (m .at) (m .n) f × Put bytes (s .progress .bytes) o bs 0 (m .put) (m .size) g
   begun k f g e h =
       let fits = fitting (byteRooms room bytes) s c phase (marks (length cs) (length bs)) in (

@@ -87,7 +87,7 @@ module _ (s : State) (t : OptionTimestampWrites) (set : Lent) (room bytes len : 
           },
         )
 
-    pub compute-right : ComputeOf room bytes len s (λ (l : Label). beginCompute s t l set) has count (record { next = m .next; batch = batch; outcome = m .outcome; put = m .put; size = m .size })
+    pub compute-right : ComputeOf room bytes len s (λ (l : Label). beginCompute s t l set) has count (record { progress = m .progress; pass = m .pass; batch = batch; outcome = m .outcome; put = m .put; size = m .size })
     unfolding outcomeOf
     compute-right = (
       λ run h. begun room bytes s (asks (length run)) Compute (cs run) (bs run) _ m (by-label run h) (computeAt batch) (λ i. getD run i 0)

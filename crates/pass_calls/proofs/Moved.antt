@@ -18,24 +18,20 @@ use Rattle.calls.specs.Parts.{withProgress, withVertex, withFixed, withPass}
 use Rattle.calls.proofs.Judged.{neither, none-holds}
 
 -- the three parts that the end of a pass leaves
-pub ended-or-not : (t : Bool) (v : VertexState) (f : FixedState) (p : PassState) (s : State) (q : Progress)
+ended-or-not : (t : Bool) (v : VertexState) (f : FixedState) (p : PassState) (s : State) (q : Progress)
     → withVertex (cond t v (s .vertex)) (withFixed (cond t f (s .fixed)) (withPass (cond t p (s .pass)) (withProgress q s))) ≡ withProgress q (cond t (withVertex v (withFixed f (withPass p s))) s)
 ended-or-not true v f p s q = refl
 ended-or-not false v f p s q = refl
 
-pub end-moved : (t ok : Bool) (v : VertexState) (f : FixedState) (p : PassState) (s moved passed settled x : State) (q : Progress) (v′ : VertexState) (f′ : FixedState) (p′ : PassState)
-    → x ≡ withVertex v′ settled → settled ≡ withFixed f′ passed → passed ≡ withPass p′ moved → moved ≡ withProgress q s
-    → v′ ≡ cond ok v (s .vertex) → f′ ≡ cond ok f (s .fixed) → p′ ≡ cond ok p (s .pass) → ok ≡ t → x ≡ withProgress q (cond t (withVertex v (withFixed f (withPass p s))) s)
-end-moved t ok v f p s moved passed settled x q v′ f′ p′ h i j k a b d e = rw (h, i, j, k, a, b, d, e) (ended-or-not t v f p s q)
+pub end-moved : (t ok : Bool) (v : VertexState) (f : FixedState) (p : PassState) (s : State) (q : Progress) (v′ : VertexState) (f′ : FixedState) (p′ : PassState)
+    → v′ ≡ cond ok v (s .vertex) → f′ ≡ cond ok f (s .fixed) → p′ ≡ cond ok p (s .pass) → ok ≡ t
+    → withVertex v′ (withFixed f′ (withPass p′ (withProgress q s))) ≡ withProgress q (cond t (withVertex v (withFixed f (withPass p s))) s)
+end-moved t ok v f p s q v′ f′ p′ a b d e = rw (a, b, d, e) (ended-or-not t v f p s q)
 
 -- the pass record alone
-pass-or-not : (t : Bool) (p : PassState) (s : State) (q : Progress) → withPass (cond t p (s .pass)) (withProgress q s) ≡ withProgress q (cond t (withPass p s) s)
+pub pass-or-not : (t : Bool) (p : PassState) (s : State) (q : Progress) → withPass (cond t p (s .pass)) (withProgress q s) ≡ withProgress q (cond t (withPass p s) s)
 pass-or-not true p s q = refl
 pass-or-not false p s q = refl
-
-pub pass-moved : (t : Bool) (p : PassState) (s moved x : State) (q : Progress) (p′ : PassState) → x ≡ withPass p′ moved → moved ≡ withProgress q s → p′ ≡ cond t p (s .pass)
-    → x ≡ withProgress q (cond t (withPass p s) s)
-pass-moved t p s moved x q p′ h i a = rw (h, i, a) (pass-or-not t p s q)
 
 module _ (rooms : Rooms) (s : State) (c : Conditions) (phase : Phase) (more : Counts) where
   -- carried through: each resolve of the state is of a place below 8

@@ -90,7 +90,7 @@ module _ (caps : PrivateCapabilities) (s : State) (d : RenderPassDescriptor) (se
           },
         )
 
-    pub render-right : RenderOf room bytes len s (λ (l : Label). beginRender caps s d l set) has count (record { next = m .next; batch = batch; outcome = m .outcome; put = m .put; size = m .size })
+    pub render-right : RenderOf room bytes len s (λ (l : Label). beginRender caps s d l set) has count (record { progress = m .progress; pass = m .pass; batch = batch; outcome = m .outcome; put = m .put; size = m .size })
     unfolding outcomeOf
     render-right = (
       λ run h. begun room bytes s (asks (length run)) Render (cs run) (bs run) _ m (by-label run h) (renderAt batch) (λ i. getD run i 0)

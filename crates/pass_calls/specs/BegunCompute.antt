@@ -9,6 +9,7 @@ use Rattle.records.specs.declared.state.Answer.{Answer}
 use Rattle.records.specs.declared.state.State.{State}
 use Rattle.pass.specs.Marks.{Label, timestamp, pushLabel}
 use Rattle.calls.specs.Meaning.{Meaning}
+use Rattle.calls.specs.Parts.{withProgress, withPass}
 use Rattle.pass_calls.specs.Marked.{labelOf, Begins}
 use Rattle.pass_calls.specs.declared.begun_compute.ComputeBegun.{ComputeBegun}
 use Rattle.pass_calls.specs.declared.begun_compute.ComputePlan.{ComputePlan}
@@ -30,12 +31,16 @@ ComputeAllowed b i = (i < length (computeCommands b)) × ComputeSound b
 abbrev pub computeAt : ComputeBegun → ℕ → Command
 computeAt b i = getD (computeCommands b) i PopDebugGroup
 
+-- the state that a plan leaves
+abbrev pub computeNext : ComputePlan → State → State
+computeNext p s = withPass (p .pass) (withProgress (p .progress) s)
+
 -- a plan is right for a meaning, by its label
 abbrev pub ComputeOf : ℕ → ℕ → ℕ → State → (Label → Meaning) → Bool → ℕ → ComputePlan → Type 0
 ComputeOf room bytes len s m has count p =
-    Begins room bytes len s m has count (p .outcome) (p .next) (p .batch .at) (p .batch .n) (computeAt (p .batch)) (p .put) (p .size)
+    Begins room bytes len s m has count (p .outcome) (computeNext p s) (p .batch .at) (p .batch .n) (computeAt (p .batch)) (p .put) (p .size)
     × ((i : ℕ) → i < p .batch .n → ComputeAllowed (p .batch) i)
 
 -- the answer of a plan
-abbrev pub computeAnswer : ComputePlan → Answer
-computeAnswer p = record { outcome = p .outcome; state = p .next }
+abbrev pub computeAnswer : ComputePlan → State → Answer
+computeAnswer p s = record { outcome = p .outcome; state = computeNext p s }

@@ -11,6 +11,7 @@ use Rattle.records.specs.declared.state.State.{State}
 use Rattle.pass.specs.Marks.{Lent, Label, timestamp, pushLabel}
 use Rattle.pass.specs.Plan.{framing, beginPlan}
 use Rattle.calls.specs.Meaning.{Meaning}
+use Rattle.calls.specs.Parts.{withProgress, withPass}
 use Rattle.pass_calls.specs.Marked.{labelOf, Begins}
 use Rattle.pass_calls.specs.declared.begun_render.RenderBegun.{RenderBegun}
 use Rattle.pass_calls.specs.declared.begun_render.RenderPlan.{RenderPlan}
@@ -35,12 +36,16 @@ RenderAllowed b i = (i < length (renderCommands b)) × RenderSound b
 abbrev pub renderAt : RenderBegun → ℕ → Command
 renderAt b i = getD (renderCommands b) i PopDebugGroup
 
+-- the state that a plan leaves
+abbrev pub renderNext : RenderPlan → State → State
+renderNext p s = withPass (p .pass) (withProgress (p .progress) s)
+
 -- a plan is right for a meaning, by its label
 abbrev pub RenderOf : ℕ → ℕ → ℕ → State → (Label → Meaning) → Bool → ℕ → RenderPlan → Type 0
 RenderOf room bytes len s m has count p =
-    Begins room bytes len s m has count (p .outcome) (p .next) (p .batch .at) (p .batch .n) (renderAt (p .batch)) (p .put) (p .size)
+    Begins room bytes len s m has count (p .outcome) (renderNext p s) (p .batch .at) (p .batch .n) (renderAt (p .batch)) (p .put) (p .size)
     × ((i : ℕ) → i < p .batch .n → RenderAllowed (p .batch) i)
 
 -- the answer of a plan
-abbrev pub renderAnswer : RenderPlan → Answer
-renderAnswer p = record { outcome = p .outcome; state = p .next }
+abbrev pub renderAnswer : RenderPlan → State → Answer
+renderAnswer p s = record { outcome = p .outcome; state = renderNext p s }

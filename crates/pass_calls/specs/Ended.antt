@@ -19,7 +19,7 @@ use Rattle.pipeline.specs.Vertex.{unsetAttribute}
 use Rattle.pass.specs.Marks.{popLabel, timestamp}
 use Rattle.pass.specs.Render.{endRenderCommands}
 use Rattle.calls.specs.Meaning.{Meaning, inRender, inCompute, listRun, free}
-use Rattle.calls.specs.Parts.{withVertex, withFixed, withPass}
+use Rattle.calls.specs.Parts.{withProgress, withVertex, withFixed, withPass}
 use Rattle.calls.specs.Planned.{Right}
 use Rattle.pass_calls.specs.declared.ended.Ended.{Ended}
 use Rattle.pass_calls.specs.declared.ended.EndPlan.{EndPlan}
@@ -59,10 +59,14 @@ EndAllowed b i = (i < length (endedCommands b)) × EndSound b
 abbrev pub endedAt : Ended → ℕ → Command
 endedAt b i = getD (endedCommands b) i PopDebugGroup
 
+-- the state that a plan leaves
+abbrev pub endNext : EndPlan → State → State
+endNext p s = withVertex (p .vertex) (withFixed (p .fixed) (withPass (p .pass) (withProgress (p .progress) s)))
+
 -- a plan is right for a meaning
 abbrev pub EndOf : ℕ → State → Meaning → EndPlan → Type 0
-EndOf room s m p = Right room s m (p .outcome) (p .next) (p .batch .at) (p .batch .n) (endedAt (p .batch)) (EndAllowed (p .batch))
+EndOf room s m p = Right room s m (p .outcome) (endNext p s) (p .batch .at) (p .batch .n) (endedAt (p .batch)) (EndAllowed (p .batch))
 
 -- the answer of a plan
-abbrev pub endAnswer : EndPlan → Answer
-endAnswer p = record { outcome = p .outcome; state = p .next }
+abbrev pub endAnswer : EndPlan → State → Answer
+endAnswer p s = record { outcome = p .outcome; state = endNext p s }

@@ -30,7 +30,7 @@ markedOutcome room bytes s c phase n size = judged (byteRooms room bytes) s c ph
 -- the answer of such a call that leaves a pass record, and where its commands and bytes go
 pub record MarkedOf (room bytes : ℕ) (s : State) (c : Conditions) (phase : Phase) (n size : ℕ) (pass : PassState) (m : Marked) : Type 0 where
   pub said : m .outcome ≡ markedOutcome room bytes s c phase n size
-  pub left : m .next ≡ taken (markedOutcome room bytes s c phase n size) (withProgress (grown (s .progress) phase (marks n size)) (withPass pass s)) s
+  pub left : withPass (m .pass) (withProgress (m .progress) s) ≡ taken (markedOutcome room bytes s c phase n size) (withProgress (grown (s .progress) phase (marks n size)) (withPass pass s)) s
   pub here : m .at ≡ taken (markedOutcome room bytes s c phase n size) (s .progress .commands) 0
   pub many : m .n ≡ taken (markedOutcome room bytes s c phase n size) n 0
   pub there : m .put ≡ taken (markedOutcome room bytes s c phase n size) (s .progress .bytes) 0

@@ -2,11 +2,13 @@
 // timestamps' set are lent with their counts. The contracts cite Call.antt and Did.antt of `calls`.
 ghost use Rattle.calls.specs.Call.{begin-render-pass, begin-compute-pass};
 ghost use Rattle.calls.specs.Did.{Marks};
-use crate::begun_compute::commit_compute;
+use crate::begun_compute::compute_answer;
 use crate::begun_compute::plan_begin_compute;
+use crate::begun_compute::record_compute;
 use crate::begun_compute::write_compute_label;
-use crate::begun_render::commit_render;
 use crate::begun_render::plan_begin_render;
+use crate::begun_render::record_render;
+use crate::begun_render::render_answer;
 use crate::begun_render::write_render_label;
 use records::command::Record;
 use records::pass::OptionTimestampWrites;
@@ -42,7 +44,8 @@ pub fn begin_render_pass(
         d,
     );
     write_render_label(bytes, label, plan);
-    commit_render(list, plan)
+    record_render(list, plan);
+    render_answer(plan, s)
 }
 
 pub fn begin_compute_pass(
@@ -72,5 +75,6 @@ pub fn begin_compute_pass(
         t,
     );
     write_compute_label(bytes, label, plan);
-    commit_compute(list, plan)
+    record_compute(list, plan);
+    compute_answer(plan, s)
 }

@@ -14,6 +14,8 @@ use crate::marked::copy_label;
 use crate::marked::label_short;
 use crate::marked::label_size;
 use crate::marked::plan_mark;
+use calls::parts::with_pass;
+use calls::parts::with_progress;
 use calls::phase::in_open;
 use pass::marks::begin_query;
 use pass::marks::over_run;
@@ -28,7 +30,9 @@ use records::outcome::Outcome;
 use records::pass::OptionTimestampWrites;
 use records::pipeline::PrivateCapabilities;
 use records::state::Answer;
+use records::state::PassState;
 use records::state::Phase;
+use records::state::Progress;
 use records::state::State;
 
 // Where the commands go and how many they are, the beginning's query, whether there is a label, and
@@ -43,7 +47,8 @@ pub struct ComputeBegun {
 }
 
 pub struct ComputePlan {
-    pub next: State,
+    pub progress: Progress,
+    pub pass: PassState,
     pub batch: ComputeBegun,
     pub outcome: Outcome,
     pub put: usize,
@@ -88,23 +93,23 @@ fn compute_count(batch: ComputeBegun) -> usize
     batch.n
 }
 
-pub fn compute_answer(plan: ComputePlan) -> Answer
-    ensures { λ r. ⌜ r ≡ computeAnswer plan ⌝ }
+pub fn compute_answer(plan: ComputePlan, s: State) -> Answer
+    ensures { λ r. ⌜ r ≡ computeAnswer plan s ⌝ }
 {
-    let state = plan.next;
     let outcome = plan.outcome;
+    let moved = with_progress(s, plan.progress);
+    let state = with_pass(moved, plan.pass);
     Answer { outcome, state }
 }
 
-pub fn commit_compute(list: &mut [Record], plan: ComputePlan) -> Answer
+pub fn record_compute(list: &mut [Record], plan: ComputePlan)
     requires { ⌜ (plan .batch .at + plan .batch .n ≤ length (now list)) × ((i : ℕ) → i < plan .batch .n → ComputeAllowed (plan .batch) i) ⌝ }
-    ensures { λ r. ⌜ (r ≡ computeAnswer plan) × (now (list .exit) ≡ filled (λ i. recordOf (computeAt (plan .batch) i)) (now (list .entry)) (plan .batch .at) (plan .batch .n)) ⌝ }
+    ensures { λ _. ⌜ now (list .exit) ≡ filled (λ i. recordOf (computeAt (plan .batch) i)) (now (list .entry)) (plan .batch .at) (plan .batch .n) ⌝ }
 {
     let batch = compute_batch(plan);
     let at = compute_at(batch);
     let n = compute_count(batch);
     fill_compute(list, at, n, batch);
-    compute_answer(plan)
 }
 
 pub fn write_compute_label(bytes: &mut [u8], label: &[u8], plan: ComputePlan)
@@ -140,10 +145,12 @@ pub fn plan_begin_compute(
     let n = opening_count(query, has_label) as usize;
     let pass = begin_compute_pass(set, set_count, t, has_label, old);
     let m = plan_mark(room, bytes_room, s, c, Phase::Compute, n, size, pass);
-    let next = m.next;
+    let progress = m.progress;
+    let pass = m.pass;
     let outcome = m.outcome;
     ComputePlan {
-        next,
+        progress,
+        pass,
         batch: ComputeBegun {
             at: m.at,
             n: m.n,

@@ -14,6 +14,8 @@ use crate::marked::copy_label;
 use crate::marked::label_short;
 use crate::marked::label_size;
 use crate::marked::plan_mark;
+use calls::parts::with_pass;
+use calls::parts::with_progress;
 use calls::phase::in_open;
 use pass::begin::BeginPlan;
 use pass::begin::begin_command_at;
@@ -28,7 +30,9 @@ use records::outcome::Outcome;
 use records::pass::RenderPassDescriptor;
 use records::pipeline::PrivateCapabilities;
 use records::state::Answer;
+use records::state::PassState;
 use records::state::Phase;
+use records::state::Progress;
 use records::state::State;
 
 // Where the commands go and how many they are, what they are worked out from, and where the label's
@@ -44,7 +48,8 @@ pub struct RenderBegun {
 }
 
 pub struct RenderPlan {
-    pub next: State,
+    pub progress: Progress,
+    pub pass: PassState,
     pub batch: RenderBegun,
     pub outcome: Outcome,
     pub put: usize,
@@ -91,23 +96,23 @@ fn render_count(batch: RenderBegun) -> usize
     batch.n
 }
 
-pub fn render_answer(plan: RenderPlan) -> Answer
-    ensures { λ r. ⌜ r ≡ renderAnswer plan ⌝ }
+pub fn render_answer(plan: RenderPlan, s: State) -> Answer
+    ensures { λ r. ⌜ r ≡ renderAnswer plan s ⌝ }
 {
-    let state = plan.next;
     let outcome = plan.outcome;
+    let moved = with_progress(s, plan.progress);
+    let state = with_pass(moved, plan.pass);
     Answer { outcome, state }
 }
 
-pub fn commit_render(list: &mut [Record], plan: RenderPlan) -> Answer
+pub fn record_render(list: &mut [Record], plan: RenderPlan)
     requires { ⌜ (plan .batch .at + plan .batch .n ≤ length (now list)) × ((i : ℕ) → i < plan .batch .n → RenderAllowed (plan .batch) i) ⌝ }
-    ensures { λ r. ⌜ (r ≡ renderAnswer plan) × (now (list .exit) ≡ filled (λ i. recordOf (renderAt (plan .batch) i)) (now (list .entry)) (plan .batch .at) (plan .batch .n)) ⌝ }
+    ensures { λ _. ⌜ now (list .exit) ≡ filled (λ i. recordOf (renderAt (plan .batch) i)) (now (list .entry)) (plan .batch .at) (plan .batch .n) ⌝ }
 {
     let batch = render_batch(plan);
     let at = render_at(batch);
     let n = render_count(batch);
     fill_render(list, at, n, batch);
-    render_answer(plan)
 }
 
 pub fn write_render_label(bytes: &mut [u8], label: &[u8], plan: RenderPlan)
@@ -152,10 +157,12 @@ pub fn plan_begin_render(
     let n = begun_count(plan) as usize;
     let pass = begin_render_pass(set, set_count, caps, d, has_label, old);
     let m = plan_mark(room, bytes_room, s, c, Phase::Render, n, size, pass);
-    let next = m.next;
+    let progress = m.progress;
+    let pass = m.pass;
     let outcome = m.outcome;
     RenderPlan {
-        next,
+        progress,
+        pass,
         batch: RenderBegun {
             at: m.at,
             n: m.n,

@@ -26,6 +26,7 @@ use pass::end::end_command_at;
 use pass::end::end_compute_at;
 use pass::end::end_compute_count;
 use pass::end::end_render_count;
+use records::check::broken_limits;
 use records::command::Command;
 use records::command::Record;
 use records::outcome::Outcome;
@@ -33,6 +34,7 @@ use records::state::Answer;
 use records::state::FixedState;
 use records::state::PassState;
 use records::state::Phase;
+use records::state::Progress;
 use records::state::State;
 use records::state::VertexState;
 
@@ -46,8 +48,12 @@ pub struct Ended {
     pub vertex: VertexState,
 }
 
+// The progress and the three parts after the call, what is written, and the outcome.
 pub struct EndPlan {
-    pub next: State,
+    pub progress: Progress,
+    pub vertex: VertexState,
+    pub fixed: FixedState,
+    pub pass: PassState,
     pub batch: Ended,
     pub outcome: Outcome,
 }
@@ -118,23 +124,25 @@ fn ended_count(batch: Ended) -> usize
     batch.n
 }
 
-pub fn end_answer(plan: EndPlan) -> Answer
-    ensures { λ r. ⌜ r ≡ endAnswer plan ⌝ }
+pub fn end_answer(plan: EndPlan, s: State) -> Answer
+    ensures { λ r. ⌜ r ≡ endAnswer plan s ⌝ }
 {
-    let state = plan.next;
     let outcome = plan.outcome;
+    let moved = with_progress(s, plan.progress);
+    let passed = with_pass(moved, plan.pass);
+    let settled = with_fixed(passed, plan.fixed);
+    let state = with_vertex(settled, plan.vertex);
     Answer { outcome, state }
 }
 
-pub fn commit_ended(list: &mut [Record], plan: EndPlan) -> Answer
+pub fn record_ended(list: &mut [Record], plan: EndPlan)
     requires { ⌜ (plan .batch .at + plan .batch .n ≤ length (now list)) × ((i : ℕ) → i < plan .batch .n → EndAllowed (plan .batch) i) ⌝ }
-    ensures { λ r. ⌜ (r ≡ endAnswer plan) × (now (list .exit) ≡ filled (λ i. recordOf (endedAt (plan .batch) i)) (now (list .entry)) (plan .batch .at) (plan .batch .n)) ⌝ }
+    ensures { λ _. ⌜ now (list .exit) ≡ filled (λ i. recordOf (endedAt (plan .batch) i)) (now (list .entry)) (plan .batch .at) (plan .batch .n) ⌝ }
 {
     let batch = ended_batch(plan);
     let at = ended_at(batch);
     let n = ended_count(batch);
     fill_ended(list, at, n, batch);
-    end_answer(plan)
 }
 
 // The end of a pass of this kind, which leaves these three parts.
@@ -157,19 +165,19 @@ pub fn plan_end(
     let c = in_phase(ends_in(render, phase));
     let rooms = list_rooms(room);
     let more = commands_only(n);
-    let v = judge(rooms, s, c, Phase::Open, more);
+    let broken = broken_limits(s);
+    let v = judge(rooms, broken, p, c, Phase::Open, more);
     let place = spot_of(v.ok, p.commands, n);
     let outcome = v.outcome;
     let progress = v.progress;
     let vertex = taken_vertex(v.ok, vertex, old_vertex);
     let fixed = taken_fixed(v.ok, fixed, old_fixed);
     let pass = taken_pass(v.ok, pass, old_pass);
-    let moved = with_progress(s, progress);
-    let passed = with_pass(moved, pass);
-    let settled = with_fixed(passed, fixed);
-    let next = with_vertex(settled, vertex);
     EndPlan {
-        next,
+        progress,
+        vertex,
+        fixed,
+        pass,
         batch: Ended {
             at: place.at,
             n: place.n,

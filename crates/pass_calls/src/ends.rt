@@ -7,8 +7,9 @@ ghost use Rattle.calls.specs.Parts.{endVertex, endFixed};
 ghost use Rattle.calls.specs.Step.{endRender, endCompute};
 ghost use Rattle.pass_calls.specs.Ended.{EndOf};
 use crate::ended::EndPlan;
-use crate::ended::commit_ended;
+use crate::ended::end_answer;
 use crate::ended::plan_end;
+use crate::ended::record_ended;
 use names::gl::PrimitiveState;
 use records::command::Record;
 use records::pipeline::PrivateCapabilities;
@@ -64,7 +65,8 @@ pub fn end_render_pass(list: &mut [Record], caps: PrivateCapabilities, s: State)
     ensures { λ r. ⌜ Lists caps s end-render-pass (now (list .entry)) r (now (list .exit)) ⌝ }
 {
     let plan = plan_end_render_pass(list.len(), caps, s);
-    commit_ended(list, plan)
+    record_ended(list, plan);
+    end_answer(plan, s)
 }
 
 pub fn plan_end_compute_pass(room: usize, caps: PrivateCapabilities, s: State) -> EndPlan
@@ -81,5 +83,6 @@ pub fn end_compute_pass(list: &mut [Record], caps: PrivateCapabilities, s: State
     ensures { λ r. ⌜ Lists caps s end-compute-pass (now (list .entry)) r (now (list .exit)) ⌝ }
 {
     let plan = plan_end_compute_pass(list.len(), caps, s);
-    commit_ended(list, plan)
+    record_ended(list, plan);
+    end_answer(plan, s)
 }

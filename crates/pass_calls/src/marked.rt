@@ -12,18 +12,20 @@ use calls::judge::Counts;
 use calls::judge::byte_rooms;
 use calls::judge::judge;
 use calls::judge::spot_of;
-use calls::parts::with_pass;
-use calls::parts::with_progress;
+use records::check::broken_limits;
 use records::check::within;
 use records::outcome::Conditions;
 use records::outcome::Outcome;
 use records::state::PassState;
 use records::state::Phase;
+use records::state::Progress;
 use records::state::State;
 
-// The answer, where the commands go and how many they are, and the same of the bytes.
+// The progress and the pass record after the call, the outcome, where the commands go and how many
+// they are, and the same of the bytes.
 pub struct Marked {
-    pub next: State,
+    pub progress: Progress,
+    pub pass: PassState,
     pub outcome: Outcome,
     pub at: usize,
     pub n: usize,
@@ -81,16 +83,16 @@ pub fn plan_mark(
         bytes: size,
         queries: 0,
     };
-    let v = judge(rooms, s, c, phase, more);
+    let broken = broken_limits(s);
+    let v = judge(rooms, broken, p, c, phase, more);
     let place = spot_of(v.ok, p.commands, n);
     let mark = spot_of(v.ok, p.bytes, size);
     let outcome = v.outcome;
     let progress = v.progress;
     let pass = taken_pass(v.ok, pass, old);
-    let moved = with_progress(s, progress);
-    let next = with_pass(moved, pass);
     Marked {
-        next,
+        progress,
+        pass,
         outcome,
         at: place.at,
         n: place.n,

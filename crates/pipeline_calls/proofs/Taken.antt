@@ -10,9 +10,13 @@ use Rattle.records.specs.declared.state.State.{State}
 use Rattle.records.specs.declared.state.VertexState.{VertexState}
 use Rattle.calls.specs.Parts.{withProgress, withVertex, withDraw, withFixed, withBind, withImmediates}
 
-pub fixed-taken : (t : Bool) (f : FixedState) (s : State) (p : Progress) → withFixed (cond t f (s .fixed)) (withProgress p s) ≡ withProgress p (cond t (withFixed f s) s)
+fixed-taken : (t : Bool) (f : FixedState) (s : State) (p : Progress) → withFixed (cond t f (s .fixed)) (withProgress p s) ≡ withProgress p (cond t (withFixed f s) s)
 fixed-taken true f s p = refl
 fixed-taken false f s p = refl
+
+-- a stencil reference's next state, from what the fixed part is
+pub fixed-next : (ok : Bool) (new : FixedState) (s : State) (p : Progress) {f : FixedState} → f ≡ cond ok new (s .fixed) → withFixed f (withProgress p s) ≡ withProgress p (cond ok (withFixed new s) s)
+fixed-next ok new s p e = ap (λ (x : FixedState). withFixed x (withProgress p s)) e ∙ fixed-taken ok new s p
 
 module _ (d : DrawState) (b : BindState) (i : ImmediateState) (s : State) (p : Progress) where
   abbrev shared : State
@@ -28,13 +32,18 @@ module _ (d : DrawState) (b : BindState) (i : ImmediateState) (s : State) (p : P
   render-taken v f true = refl
   render-taken v f false = refl
 
+-- a compute pipeline's next state, from what each of its parts is
+pub shared-next : (ok : Bool) (s : State) (p : Progress) {d d′ : DrawState} {b b′ : BindState} {i i′ : ImmediateState} → d ≡ d′ → b ≡ b′ → i ≡ i′
+    → withProgress p (cond ok (withDraw d (withBind b (withImmediates i s))) s) ≡ withProgress p (cond ok (withDraw d′ (withBind b′ (withImmediates i′ s))) s)
+shared-next ok s p ed eb ei = λ j. withProgress p (cond ok (withDraw (ed j) (withBind (eb j) (withImmediates (ei j) s))) s)
+
 -- a render pipeline's next state, from what each of its parts is
-module _ (ok : Bool) (s : State) (p : Progress) (v′ : VertexState) (d′ : DrawState) (f′ : FixedState) (b′ : BindState) (i′ : ImmediateState) where
-  pub render-next : {x shared : State} {v : VertexState} {d : DrawState} {f : FixedState} {b : BindState} {i : ImmediateState}
+module _ (ok : Bool) (s : State) (p : Progress) (v′ : VertexState) (d′ : DrawState) (f′ : FixedState) (b : BindState) (i′ : ImmediateState) where
+  pub render-next : {x shared : State} {v : VertexState} {d : DrawState} {f : FixedState} {i : ImmediateState}
       → x ≡ withVertex (cond ok v (s .vertex)) (withFixed (cond ok f (s .fixed)) shared) → shared ≡ withProgress p (cond ok (withDraw d (withBind b (withImmediates i s))) s)
-      → v ≡ v′ → d ≡ d′ → f ≡ f′ → b ≡ b′ → i ≡ i′ → x ≡ withProgress p (cond ok (withVertex v′ (withDraw d′ (withFixed f′ (withBind b′ (withImmediates i′ s))))) s)
-  render-next {v = v} {d = d} {f = f} {b = b} {i = i} e h ev ed ef eb ei =
+      → v ≡ v′ → d ≡ d′ → f ≡ f′ → i ≡ i′ → x ≡ withProgress p (cond ok (withVertex v′ (withDraw d′ (withFixed f′ (withBind b (withImmediates i′ s))))) s)
+  render-next {v = v} {d = d} {f = f} {i = i} e h ev ed ef ei =
       e
       ∙ ap (λ (y : State). withVertex (cond ok v (s .vertex)) (withFixed (cond ok f (s .fixed)) y)) h
       ∙ render-taken d b i s p v f ok
-      ∙ (λ j. withProgress p (cond ok (withVertex (ev j) (withDraw (ed j) (withFixed (ef j) (withBind (eb j) (withImmediates (ei j) s))))) s))
+      ∙ (λ j. withProgress p (cond ok (withVertex (ev j) (withDraw (ed j) (withFixed (ef j) (withBind b (withImmediates (ei j) s))))) s))

@@ -1,20 +1,17 @@
 // Compute pipelines. The contracts cite calls/specs/Step.antt and Did.antt.
 ghost use mathlib.Core.Path.{_≡_};
-ghost use mathlib.Core.Bool.{cond};
 ghost use Rattle.records.specs.declared.state.State.{State};
-ghost use Rattle.pipeline.specs.Inner.{innerBind};
 ghost use Rattle.calls.specs.Call.{set-compute-pipeline};
 ghost use Rattle.calls.specs.Did.{Lists};
 ghost use Rattle.calls.specs.Meaning.{inCompute};
-ghost use Rattle.calls.specs.Parts.{withProgress};
 ghost use Rattle.calls.specs.Step.{setComputePipeline};
 ghost use Rattle.pipeline_calls.specs.Programmed.{ProgrammedOf};
 ghost use Rattle.calls.specs.Judge.{asking};
-use crate::moved::shared_moved;
 use crate::moved::with_location;
 use crate::programmed::Programmed;
 use crate::programmed::ProgrammedPlan;
-use crate::programmed::commit_programmed;
+use crate::programmed::programmed_answer;
+use crate::programmed::record_programmed;
 use calls::judge::commands_only;
 use calls::judge::judge;
 use calls::judge::list_rooms;
@@ -26,14 +23,13 @@ use pipeline::inner::inner_count;
 use pipeline::inner::inner_immediates;
 use pipeline::inner::inner_out_of_range;
 use pipeline::inner::inner_too_many;
+use records::check::broken_limits;
 use records::command::Record;
 use records::outcome::Conditions;
 use records::pipeline::ComputePipeline;
 use records::pipeline::PrivateCapabilities;
 use records::state::Answer;
-use records::state::BindState;
 use records::state::Phase;
-use records::state::Progress;
 use records::state::State;
 
 // The conditions of the call: its phase and its arguments.
@@ -52,25 +48,6 @@ fn compute_asks(phase: Phase, p: ComputePipeline) -> Conditions
     }
 }
 
-// The state after the call, where `bind` is what `inner_bind` gives.
-fn compute_next(
-    ok: bool,
-    s: State,
-    p: ComputePipeline,
-    progress: Progress,
-    bind: BindState,
-) -> State
-    ensures { λ r. ⌜ (bind ≡ innerBind (p .inner) (s .bind) → r ≡ withProgress progress (cond ok (setComputePipeline s p .after) s)) ⌝ }
-{
-    let inner = p.inner;
-    let location = inner.first_instance_location;
-    let old_draw = s.draw;
-    let old_immediates = s.immediates;
-    let draw = with_location(old_draw, location);
-    let immediates = inner_immediates(inner, old_immediates);
-    shared_moved(ok, s, progress, draw, bind, immediates)
-}
-
 pub fn plan_set_compute_pipeline(
     room: usize,
     caps: PrivateCapabilities,
@@ -81,21 +58,29 @@ pub fn plan_set_compute_pipeline(
 {
     let now = s.progress;
     let phase = now.phase;
+    let old_draw = s.draw;
     let old_bind = s.bind;
+    let old_immediates = s.immediates;
     let inner = p.inner;
+    let location = inner.first_instance_location;
     let changed = changed_units(inner, old_bind);
     let n = inner_count(changed) as usize;
     let rooms = list_rooms(room);
     let more = commands_only(n);
     let c = compute_asks(phase, p);
-    let v = judge(rooms, s, c, phase, more);
+    let broken = broken_limits(s);
+    let v = judge(rooms, broken, now, c, phase, more);
     let place = spot_of(v.ok, now.commands, n);
     let progress = v.progress;
     let outcome = v.outcome;
     let bind = inner_bind(inner, old_bind);
-    let next = compute_next(v.ok, s, p, progress, bind);
+    let draw = with_location(old_draw, location);
+    let immediates = inner_immediates(inner, old_immediates);
     ProgrammedPlan {
-        next,
+        ok: v.ok,
+        progress,
+        draw,
+        immediates,
         batch: Programmed {
             at: place.at,
             n: place.n,
@@ -116,5 +101,6 @@ pub fn set_compute_pipeline(
     ensures { λ r. ⌜ Lists caps s (set-compute-pipeline p) (now (list .entry)) r (now (list .exit)) ⌝ }
 {
     let plan = plan_set_compute_pipeline(list.len(), caps, s, p);
-    commit_programmed(list, plan)
+    record_programmed(list, plan);
+    programmed_answer(plan, s)
 }

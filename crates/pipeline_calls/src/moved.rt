@@ -2,13 +2,16 @@
 // through.
 ghost use mathlib.Core.Path.{_≡_};
 ghost use mathlib.Core.Bool.{cond};
-ghost use Rattle.calls.specs.Parts.{withProgress, withVertex, withDraw, withFixed, withBind, withImmediates, withLocation};
+ghost use Rattle.names.specs.Maps.{primitiveTopology};
+ghost use Rattle.calls.specs.Parts.{withProgress, withVertex, withDraw, withFixed, withBind, withImmediates, withLocation, withTopology};
 use calls::parts::with_bind;
 use calls::parts::with_draw;
 use calls::parts::with_fixed;
 use calls::parts::with_immediates;
 use calls::parts::with_progress;
 use calls::parts::with_vertex;
+use names::map_primitive_topology;
+use names::wgt::PrimitiveTopology;
 use records::command::OptionU32;
 use records::state::BindState;
 use records::state::DrawState;
@@ -30,7 +33,7 @@ fn taken_draw(ok: bool, new: DrawState, old: DrawState) -> DrawState
     if ok { new } else { old }
 }
 
-fn taken_fixed(ok: bool, new: FixedState, old: FixedState) -> FixedState
+pub fn taken_fixed(ok: bool, new: FixedState, old: FixedState) -> FixedState
     ensures { λ r. ⌜ r ≡ cond ok new old ⌝ }
 {
     if ok { new } else { old }
@@ -60,14 +63,17 @@ pub fn with_location(d: DrawState, location: OptionU32) -> DrawState
     }
 }
 
-// Only the fixed part changes.
-pub fn fixed_moved(ok: bool, s: State, progress: Progress, fixed: FixedState) -> State
-    ensures { λ r. ⌜ r ≡ withProgress progress (cond ok (withFixed fixed s) s) ⌝ }
+pub fn with_topology(d: DrawState, topology: PrimitiveTopology) -> DrawState
+    ensures { λ r. ⌜ r ≡ withTopology (primitiveTopology topology) d ⌝ }
 {
-    let old = s.fixed;
-    let moved = with_progress(s, progress);
-    let taken = taken_fixed(ok, fixed, old);
-    with_fixed(moved, taken)
+    let format = d.index_format;
+    let location = d.first_instance_location;
+    DrawState {
+        topology: map_primitive_topology(topology),
+        index_format: format,
+        index_offset: d.index_offset,
+        first_instance_location: location,
+    }
 }
 
 // The parts that every pipeline changes.

@@ -6,8 +6,15 @@ ghost use lib.ListN.{length};
 ghost use Rattle.walks.specs.Fill.{filled};
 ghost use Rattle.calls.specs.Did.{recordOf};
 ghost use Rattle.pipeline_calls.specs.Piped.{PipedAllowed, pipedAt as commandAt, pipedAnswer};
+use crate::moved::render_moved;
+use crate::moved::shared_moved;
+use crate::moved::with_location;
+use crate::moved::with_topology;
+use pipeline::fixed::pipeline_fixed;
+use pipeline::inner::inner_immediates;
 use pipeline::render::RenderPlan;
 use pipeline::render::render_command_at;
+use pipeline::vertex::pipeline_vertex;
 use records::command::Command;
 use records::command::Record;
 use records::outcome::Outcome;
@@ -16,6 +23,7 @@ use records::pipeline::RenderPipeline;
 use records::state::Answer;
 use records::state::BindState;
 use records::state::FixedState;
+use records::state::Progress;
 use records::state::State;
 use records::state::VertexState;
 
@@ -33,7 +41,8 @@ pub struct Piped {
 }
 
 pub struct PipedPlan {
-    pub next: State,
+    pub ok: bool,
+    pub progress: Progress,
     pub batch: Piped,
     pub outcome: Outcome,
 }
@@ -81,21 +90,39 @@ fn piped_count(batch: Piped) -> usize
     batch.n
 }
 
-pub fn piped_answer(plan: PipedPlan) -> Answer
-    ensures { λ r. ⌜ r ≡ pipedAnswer plan ⌝ }
+// The parts that change are worked out from the batch and the state before the call.
+pub fn piped_answer(plan: PipedPlan, s: State) -> Answer
+    ensures { λ r. ⌜ r ≡ pipedAnswer plan s ⌝ }
 {
-    let state = plan.next;
+    let ok = plan.ok;
+    let progress = plan.progress;
     let outcome = plan.outcome;
+    let caps = plan.batch.caps;
+    let p = plan.batch.pipeline;
+    let bind = plan.batch.bind;
+    let inner = p.inner;
+    let location = inner.first_instance_location;
+    let topology = p.topology;
+    let old_draw = s.draw;
+    let old_vertex = s.vertex;
+    let old_fixed = s.fixed;
+    let old_immediates = s.immediates;
+    let located = with_location(old_draw, location);
+    let draw = with_topology(located, topology);
+    let vertex = pipeline_vertex(caps, p, old_vertex);
+    let fixed = pipeline_fixed(p, old_fixed);
+    let immediates = inner_immediates(inner, old_immediates);
+    let shared = shared_moved(ok, s, progress, draw, bind, immediates);
+    let state = render_moved(ok, s, shared, vertex, fixed);
     Answer { outcome, state }
 }
 
-pub fn commit_piped(list: &mut [Record], plan: PipedPlan) -> Answer
+pub fn record_piped(list: &mut [Record], plan: PipedPlan)
     requires { ⌜ (plan .batch .at + plan .batch .n ≤ length (now list)) × ((i : ℕ) → i < plan .batch .n → PipedAllowed (plan .batch) i) ⌝ }
-    ensures { λ r. ⌜ (r ≡ pipedAnswer plan) × (now (list .exit) ≡ filled (λ i. recordOf (commandAt (plan .batch) i)) (now (list .entry)) (plan .batch .at) (plan .batch .n)) ⌝ }
+    ensures { λ _. ⌜ now (list .exit) ≡ filled (λ i. recordOf (commandAt (plan .batch) i)) (now (list .entry)) (plan .batch .at) (plan .batch .n) ⌝ }
 {
     let batch = piped_batch(plan);
     let at = piped_at(batch);
     let n = piped_count(batch);
     fill_piped(list, at, n, batch);
-    piped_answer(plan)
 }

@@ -6,12 +6,16 @@ ghost use lib.ListN.{length};
 ghost use Rattle.walks.specs.Fill.{filled};
 ghost use Rattle.calls.specs.Did.{recordOf};
 ghost use Rattle.pipeline_calls.specs.Programmed.{ProgrammedAllowed, programmedAt as commandAt, programmedAnswer};
+use crate::moved::shared_moved;
 use pipeline::inner::inner_command_at;
 use records::command::Command;
 use records::command::Record;
 use records::outcome::Outcome;
 use records::state::Answer;
 use records::state::BindState;
+use records::state::DrawState;
+use records::state::ImmediateState;
+use records::state::Progress;
 use records::state::State;
 
 // Where the commands go and how many they are, the program, the bindings after the call, and the
@@ -24,8 +28,13 @@ pub struct Programmed {
     pub changed: u32,
 }
 
+// Whether the call is carried through, and the parts that it changes then; the bindings are the
+// batch's.
 pub struct ProgrammedPlan {
-    pub next: State,
+    pub ok: bool,
+    pub progress: Progress,
+    pub draw: DrawState,
+    pub immediates: ImmediateState,
     pub batch: Programmed,
     pub outcome: Outcome,
 }
@@ -68,21 +77,24 @@ fn programmed_count(batch: Programmed) -> usize
     batch.n
 }
 
-pub fn programmed_answer(plan: ProgrammedPlan) -> Answer
-    ensures { λ r. ⌜ r ≡ programmedAnswer plan ⌝ }
+pub fn programmed_answer(plan: ProgrammedPlan, s: State) -> Answer
+    ensures { λ r. ⌜ r ≡ programmedAnswer plan s ⌝ }
 {
-    let state = plan.next;
     let outcome = plan.outcome;
+    let progress = plan.progress;
+    let draw = plan.draw;
+    let bind = plan.batch.bind;
+    let immediates = plan.immediates;
+    let state = shared_moved(plan.ok, s, progress, draw, bind, immediates);
     Answer { outcome, state }
 }
 
-pub fn commit_programmed(list: &mut [Record], plan: ProgrammedPlan) -> Answer
+pub fn record_programmed(list: &mut [Record], plan: ProgrammedPlan)
     requires { ⌜ (plan .batch .at + plan .batch .n ≤ length (now list)) × ((i : ℕ) → i < plan .batch .n → ProgrammedAllowed (plan .batch) i) ⌝ }
-    ensures { λ r. ⌜ (r ≡ programmedAnswer plan) × (now (list .exit) ≡ filled (λ i. recordOf (commandAt (plan .batch) i)) (now (list .entry)) (plan .batch .at) (plan .batch .n)) ⌝ }
+    ensures { λ _. ⌜ now (list .exit) ≡ filled (λ i. recordOf (commandAt (plan .batch) i)) (now (list .entry)) (plan .batch .at) (plan .batch .n) ⌝ }
 {
     let batch = programmed_batch(plan);
     let at = programmed_at(batch);
     let n = programmed_count(batch);
     fill_programmed(list, at, n, batch);
-    programmed_answer(plan)
 }

@@ -6,10 +6,11 @@ ghost use Rattle.calls.specs.Parts.{withStencil};
 ghost use Rattle.calls.specs.Settings.{withReference, referenced as referencedOf};
 ghost use Rattle.calls.specs.Step.{setStencilReference};
 ghost use Rattle.pipeline_calls.specs.Sides.{SidesOf};
-use crate::moved::fixed_moved;
+use crate::moved::taken_fixed;
 use crate::sides::Sides;
 use crate::sides::SidesPlan;
-use crate::sides::commit_sides;
+use crate::sides::record_sides;
+use crate::sides::sides_answer;
 use calls::judge::commands_only;
 use calls::judge::judge;
 use calls::judge::list_rooms;
@@ -19,6 +20,7 @@ use calls::phase::in_render;
 use names::gl::StencilSide;
 use names::gl::StencilState;
 use pipeline::stencil::stencil_func_count;
+use records::check::broken_limits;
 use records::command::Record;
 use records::pipeline::PrivateCapabilities;
 use records::state::Answer;
@@ -83,14 +85,16 @@ pub fn plan_set_stencil_reference(
     let rooms = list_rooms(room);
     let more = commands_only(n);
     let c = in_phase(in_render(phase));
-    let v = judge(rooms, s, c, phase, more);
+    let broken = broken_limits(s);
+    let v = judge(rooms, broken, p, c, phase, more);
     let place = spot_of(v.ok, p.commands, n);
     let progress = v.progress;
     let outcome = v.outcome;
     let new = with_stencil(old, stencil);
-    let next = fixed_moved(v.ok, s, progress, new);
+    let fixed = taken_fixed(v.ok, new, old);
     SidesPlan {
-        next,
+        progress,
+        fixed,
         batch: Sides {
             at: place.at,
             n: place.n,
@@ -109,5 +113,6 @@ pub fn set_stencil_reference(
     ensures { λ r. ⌜ Lists caps s (set-stencil-reference reference) (now (list .entry)) r (now (list .exit)) ⌝ }
 {
     let plan = plan_set_stencil_reference(list.len(), caps, s, reference);
-    commit_sides(list, plan)
+    record_sides(list, plan);
+    sides_answer(plan, s)
 }

@@ -1,51 +1,38 @@
 // Render pipelines. The contracts cite calls/specs/Step.antt and Did.antt.
 ghost use mathlib.Core.Path.{_≡_};
-ghost use mathlib.Core.Bool.{cond};
-ghost use Rattle.names.specs.Maps.{primitiveTopology};
 ghost use Rattle.records.specs.declared.pipeline.PrivateCapabilities.{PrivateCapabilities};
 ghost use Rattle.records.specs.declared.state.State.{State};
-ghost use Rattle.pipeline.specs.Inner.{innerBind};
 ghost use Rattle.calls.specs.Call.{set-render-pipeline};
 ghost use Rattle.calls.specs.Did.{Lists};
 ghost use Rattle.calls.specs.Meaning.{inRender};
-ghost use Rattle.calls.specs.Parts.{withProgress, withTopology};
 ghost use Rattle.calls.specs.Step.{setRenderPipeline};
 ghost use Rattle.pipeline_calls.specs.Piped.{PipedOf};
 ghost use Rattle.calls.specs.Judge.{asking};
-use crate::moved::render_moved;
-use crate::moved::shared_moved;
-use crate::moved::with_location;
 use crate::piped::Piped;
 use crate::piped::PipedPlan;
-use crate::piped::commit_piped;
+use crate::piped::piped_answer;
+use crate::piped::record_piped;
 use calls::judge::commands_only;
 use calls::judge::judge;
 use calls::judge::list_rooms;
 use calls::judge::spot_of;
 use calls::phase::in_render;
-use names::map_primitive_topology;
-use names::wgt::PrimitiveTopology;
 use pipeline::attributes::vertex_absent;
 use pipeline::attributes::vertex_out_of_range;
 use pipeline::attributes::vertex_too_many;
 use pipeline::attributes::vertex_twice;
 use pipeline::fixed::fixed_too_many;
-use pipeline::fixed::pipeline_fixed;
 use pipeline::inner::inner_bind;
-use pipeline::inner::inner_immediates;
 use pipeline::inner::inner_out_of_range;
 use pipeline::inner::inner_too_many;
 use pipeline::render::render_plan;
-use pipeline::vertex::pipeline_vertex;
+use records::check::broken_limits;
 use records::command::Record;
 use records::outcome::Conditions;
 use records::pipeline::PrivateCapabilities;
 use records::pipeline::RenderPipeline;
 use records::state::Answer;
-use records::state::BindState;
-use records::state::DrawState;
 use records::state::Phase;
-use records::state::Progress;
 use records::state::State;
 
 // The conditions of the call: its phase and its arguments.
@@ -62,46 +49,6 @@ fn render_asks(phase: Phase, p: RenderPipeline) -> Conditions
         sum: false,
         room: false,
     }
-}
-
-fn with_topology(d: DrawState, topology: PrimitiveTopology) -> DrawState
-    ensures { λ r. ⌜ r ≡ withTopology (primitiveTopology topology) d ⌝ }
-{
-    let format = d.index_format;
-    let location = d.first_instance_location;
-    DrawState {
-        topology: map_primitive_topology(topology),
-        index_format: format,
-        index_offset: d.index_offset,
-        first_instance_location: location,
-    }
-}
-
-// The state after the call, where `bind` is what `inner_bind` gives.
-fn render_next(
-    ok: bool,
-    caps: PrivateCapabilities,
-    s: State,
-    p: RenderPipeline,
-    progress: Progress,
-    bind: BindState,
-) -> State
-    ensures { λ r. ⌜ (bind ≡ innerBind (p .inner) (s .bind) → r ≡ withProgress progress (cond ok (setRenderPipeline caps s p .after) s)) ⌝ }
-{
-    let inner = p.inner;
-    let location = inner.first_instance_location;
-    let topology = p.topology;
-    let old_draw = s.draw;
-    let old_vertex = s.vertex;
-    let old_fixed = s.fixed;
-    let old_immediates = s.immediates;
-    let located = with_location(old_draw, location);
-    let draw = with_topology(located, topology);
-    let vertex = pipeline_vertex(caps, p, old_vertex);
-    let fixed = pipeline_fixed(p, old_fixed);
-    let immediates = inner_immediates(inner, old_immediates);
-    let shared = shared_moved(ok, s, progress, draw, bind, immediates);
-    render_moved(ok, s, shared, vertex, fixed)
 }
 
 pub fn plan_set_render_pipeline(
@@ -122,14 +69,16 @@ pub fn plan_set_render_pipeline(
     let n = plan.count as usize;
     let more = commands_only(n);
     let c = render_asks(phase, p);
-    let v = judge(list_rooms(room), s, c, phase, more);
+    let rooms = list_rooms(room);
+    let broken = broken_limits(s);
+    let v = judge(rooms, broken, now, c, phase, more);
     let place = spot_of(v.ok, now.commands, n);
     let progress = v.progress;
     let outcome = v.outcome;
     let bind = inner_bind(inner, old_bind);
-    let next = render_next(v.ok, caps, s, p, progress, bind);
     PipedPlan {
-        next,
+        ok: v.ok,
+        progress,
         batch: Piped {
             at: place.at,
             n: place.n,
@@ -153,5 +102,6 @@ pub fn set_render_pipeline(
     ensures { λ r. ⌜ Lists caps s (set-render-pipeline p) (now (list .entry)) r (now (list .exit)) ⌝ }
 {
     let plan = plan_set_render_pipeline(list.len(), caps, s, p);
-    commit_piped(list, plan)
+    record_piped(list, plan);
+    piped_answer(plan, s)
 }

@@ -6,12 +6,16 @@ ghost use lib.ListN.{length};
 ghost use Rattle.walks.specs.Fill.{filled};
 ghost use Rattle.calls.specs.Did.{recordOf};
 ghost use Rattle.pipeline_calls.specs.Sides.{SidesAllowed, sidesAt as commandAt, sidesAnswer};
+use calls::parts::with_fixed;
+use calls::parts::with_progress;
 use names::gl::StencilState;
 use pipeline::stencil::stencil_func_at;
 use records::command::Command;
 use records::command::Record;
 use records::outcome::Outcome;
 use records::state::Answer;
+use records::state::FixedState;
+use records::state::Progress;
 use records::state::State;
 
 // Where the commands go and how many they are, and the stencil that they set.
@@ -22,7 +26,8 @@ pub struct Sides {
 }
 
 pub struct SidesPlan {
-    pub next: State,
+    pub progress: Progress,
+    pub fixed: FixedState,
     pub batch: Sides,
     pub outcome: Outcome,
 }
@@ -65,21 +70,21 @@ fn sides_count(batch: Sides) -> usize
     batch.n
 }
 
-pub fn sides_answer(plan: SidesPlan) -> Answer
-    ensures { λ r. ⌜ r ≡ sidesAnswer plan ⌝ }
+pub fn sides_answer(plan: SidesPlan, s: State) -> Answer
+    ensures { λ r. ⌜ r ≡ sidesAnswer plan s ⌝ }
 {
-    let state = plan.next;
     let outcome = plan.outcome;
+    let moved = with_progress(s, plan.progress);
+    let state = with_fixed(moved, plan.fixed);
     Answer { outcome, state }
 }
 
-pub fn commit_sides(list: &mut [Record], plan: SidesPlan) -> Answer
+pub fn record_sides(list: &mut [Record], plan: SidesPlan)
     requires { ⌜ (plan .batch .at + plan .batch .n ≤ length (now list)) × ((i : ℕ) → i < plan .batch .n → SidesAllowed (plan .batch) i) ⌝ }
-    ensures { λ r. ⌜ (r ≡ sidesAnswer plan) × (now (list .exit) ≡ filled (λ i. recordOf (commandAt (plan .batch) i)) (now (list .entry)) (plan .batch .at) (plan .batch .n)) ⌝ }
+    ensures { λ _. ⌜ now (list .exit) ≡ filled (λ i. recordOf (commandAt (plan .batch) i)) (now (list .entry)) (plan .batch .at) (plan .batch .n) ⌝ }
 {
     let batch = sides_batch(plan);
     let at = sides_at(batch);
     let n = sides_count(batch);
     fill_sides(list, at, n, batch);
-    sides_answer(plan)
 }

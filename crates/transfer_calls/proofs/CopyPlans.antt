@@ -5,9 +5,10 @@ use mathlib.Core.Path.{_≡_}
 use lib.ListN.{length}
 use mir.Table.{Table}
 use Rattle.walks.specs.Fill.{filled}
-use Rattle.walks.proofs.Args.{of-struct}
+use Rattle.walks.proofs.Args.{Datum, of-struct}
 use Rattle.walks.proofs.Filling.{Kinds}
-use Rattle.walks.proofs.CommittingFrom.{PlansFrom}
+use Rattle.walks.proofs.Recording.{Answers}
+use Rattle.walks.proofs.RecordingFrom.{PlansFrom}
 use Rattle.records.specs.declared.check.Rooms.{Rooms}
 use Rattle.records.specs.declared.command.Record.{Record}
 use Rattle.records.specs.declared.pipeline.PrivateCapabilities.{PrivateCapabilities}
@@ -16,13 +17,15 @@ use Rattle.records.specs.declared.state.State.{State}
 use Rattle.records.proofs.command.Command as C
 use Rattle.records.proofs.command.Record as R
 use Rattle.records.proofs.state.Answer as A
+use Rattle.records.proofs.state.State as S
 use Rattle.calls.specs.Call.{Call}
 use Rattle.calls.specs.Did.{Lists, recordOf}
 use Rattle.calls.specs.Meaning.{Meaning}
+use Rattle.calls.specs.Parts.{withProgress}
 use Rattle.calls.specs.Planned.{listRooms}
 use Rattle.calls.specs.Step.{meaning}
 use Rattle.calls.proofs.Listed.{lists-done}
-use Rattle.calls.proofs.Data.{text, Spells, SpellsE, kindsOf, answer}
+use Rattle.calls.proofs.Data.{text, Spells, SpellsE, kindsOf, state, answer}
 use Rattle.transfer_calls.specs.declared.regions.CopyPlan.{CopyPlan}
 use Rattle.transfer_calls.specs.Regions.{CopyAllowed, CopiesOf, copyAt, copyAnswer}
 use Rattle.transfer_calls.proofs.regions.Copies as B
@@ -38,19 +41,23 @@ pub record Spelled (Δ : Table) : Type 0 where
 abbrev pub kinds : (Δ : Table) → Spelled Δ → Kinds
 kinds Δ e = kindsOf Δ (e .records) (e .commands) (of-struct B.the-type B′.the-laws B′.the-plain (text Δ B.the-type) (e .batches))
 
-abbrev pub copies : (Δ : Table) → Spelled Δ → Spells Δ P.the-type → Spells Δ A.the-type → PlansFrom
-copies Δ e p a =
+abbrev pub copy-plan : (Δ : Table) → Spells Δ P.the-type → Datum
+copy-plan Δ p = of-struct P.the-type P′.the-laws P′.the-plain (text Δ P.the-type) p
+
+abbrev pub copies : (Δ : Table) → Spelled Δ → Spells Δ P.the-type → PlansFrom
+copies Δ e p =
     record {
       kinds = kinds Δ e;
-      Pl = of-struct P.the-type P′.the-laws P′.the-plain (text Δ P.the-type) p;
-      An = answer Δ a;
+      Pl = copy-plan Δ p;
       batch = λ p. p .batch;
       at = λ b. b .at;
       n = λ b. b .n;
-      answer = copyAnswer;
       Allowed = CopyAllowed;
       commandAt = copyAt;
     }
+
+abbrev pub copy-answers : (Δ : Table) (p : Spells Δ P.the-type) → Spells Δ S.the-type → Spells Δ A.the-type → Answers (copy-plan Δ p)
+copy-answers Δ p s a = record { St = state Δ s; An = answer Δ a; answer = copyAnswer }
 
 -- a plan that is right fits
 pub copies-fits : (ns : List ℕ) (room : ℕ) (s : State) (m : Meaning) (p : CopyPlan) → CopiesOf ns room s m p → (p .batch .at + p .batch .n ≤ room) × ((i : ℕ) → i < p .batch .n → CopyAllowed ns (p .batch) i)
@@ -59,6 +66,6 @@ copies-fits ns room s m p h = (h .1 .fits, h .2)
 -- and written it is the call
 pub copies-done : (ns : List ℕ) (caps : PrivateCapabilities) (s : State) (c : Call) → ((r : Rooms) → meaning caps s c .handed r ≡ listRooms (r .commands)) → meaning caps s c .bytes ≡ [] → meaning caps s c .queries ≡ []
     → (run run′ : List Record) (a : Answer) (p : CopyPlan) → CopiesOf ns (length run) s (meaning caps s c) p
-    → (a ≡ copyAnswer p) × (run′ ≡ filled (λ i. recordOf (copyAt ns (p .batch) i)) run (p .batch .at) (p .batch .n)) → Lists caps s c run a run′
+    → (a ≡ copyAnswer p s) × (run′ ≡ filled (λ i. recordOf (copyAt ns (p .batch) i)) run (p .batch .at) (p .batch .n)) → Lists caps s c run a run′
 copies-done ns caps s c alone no-bytes no-queries run run′ a p h e =
-    lists-done caps s c alone no-bytes no-queries run run′ a (p .outcome) (p .next) (p .batch .at) (p .batch .n) (copyAt ns (p .batch)) (h .0) (h .1) (e .0) (e .1)
+    lists-done caps s c alone no-bytes no-queries run run′ a (p .outcome) (withProgress (p .progress) s) (p .batch .at) (p .batch .n) (copyAt ns (p .batch)) (h .0) (h .1) (e .0) (e .1)

@@ -16,14 +16,12 @@ use Rattle.records.specs.declared.command.Command.the-variants.{CopyQueryResult
 use Rattle.records.specs.declared.command.RangeU32.{RangeU32}
 use Rattle.records.specs.declared.outcome.Conditions.{Conditions}
 use Rattle.records.specs.declared.outcome.Outcome.{Outcome}
-use Rattle.records.specs.declared.state.Progress.{Progress}
 use Rattle.records.specs.declared.state.State.{State}
 use Rattle.pass.specs.Marks.{Lent, overRun}
 use Rattle.calls.specs.declared.judge.Counts.{Counts}
 use Rattle.calls.specs.Call.{QuerySet}
 use Rattle.calls.specs.Judge.{grown, judged, taken}
 use Rattle.calls.specs.Meaning.{Meaning, inOpen}
-use Rattle.calls.specs.Parts.{withProgress}
 use Rattle.calls.specs.Planned.{queryRooms}
 use Rattle.calls.specs.Step.{outcomeOf, progressAfter, copyQueryResults}
 use Rattle.calls.specs.Transfers.{queriesIn, rangeOut, copyQueriesCommand}
@@ -122,17 +120,17 @@ module _ (run : List ℕ) (count target start end room queries : ℕ) (s : State
           let long : size ≡ 0 = rw k at b in
           omega arith
 
-  pub right : (p : ResolvedPlan) (progress : Progress) → p .outcome ≡ outcome → p .next ≡ withProgress progress s
-      → progress ≡ taken outcome (grown (s .progress) (s .progress .phase) more) (s .progress)
+  pub right : (p : ResolvedPlan) → p .outcome ≡ outcome
+      → p .progress ≡ taken outcome (grown (s .progress) (s .progress .phase) more) (s .progress)
       → (p .batch .at ≡ cond (accepted outcome) (s .progress .commands) 0) × (p .batch .n ≡ cond (accepted outcome) 1 0)
       → (p .to ≡ cond (accepted outcome) (s .progress .queries) 0) × (p .size ≡ cond (accepted outcome) (length qs) 0) → p .from ≡ cond (accepted outcome) start 0
       → (p .to + p .size ≤ 1024 → p .batch .range ≡ record { start = p .to; end = p .to + p .size })
       → p .batch .dst ≡ dst .raw → p .batch .target ≡ dst .target → p .batch .offset ≡ offset → ResolvedOf run room queries s m p
   unfolding outcomeOf
-  right p progress said next left place puts from range raw to off =
+  right p said left place puts from range raw to off =
       let fits = fitting rooms s asks (s .progress .phase) more in
       let command = copyQueriesCommand (s .progress .queries) start end dst offset in (
-        (said, next ∙ stays-put outcome s progress (progressAfter m) left),
+        (said, stays-put outcome s (p .progress) (progressAfter m) left),
         put outcome room (s .progress .commands) (command ∷ []) PopDebugGroup (p .batch .at) (p .batch .n) _ (λ k. fits k .commands-fit) (place .0) (place .1)
             (λ k i l. rw (raw, to, off) (ranged (p .to) (p .size) (p .batch .range) (puts .0) (puts .1) range k) ∙ only-at true command i l),
         put outcome queries (s .progress .queries) qs 0 (p .to) (p .size) _ (λ k. fits k .queries-fit) (puts .0) (puts .1)

@@ -8,10 +8,12 @@ use Rattle.records.specs.declared.command.Command.the-variants.{BufferBarrier, 
 use Rattle.records.specs.declared.state.Answer.{Answer}
 use Rattle.records.specs.declared.state.State.{State}
 use Rattle.calls.specs.Meaning.{Meaning}
+use Rattle.calls.specs.Parts.{withProgress}
 use Rattle.calls.specs.Planned.{Right}
 use Rattle.calls.specs.Transfers.{Barrier, bufferBarriers, bufferBarrierCommands}
 use Rattle.transfer_calls.specs.declared.barriers.Barriers.{Barriers}
 use Rattle.transfer_calls.specs.declared.barriers.BarrierPlan.{BarrierPlan}
+use Rattle.transfer_calls.specs.Moved.{movedAnswer}
 
 -- barrier i of a run
 abbrev pub barrierAt : List ℕ → ℕ → Barrier
@@ -33,7 +35,7 @@ abbrev pub barrierCommandAt : List ℕ → Barriers → ℕ → Command
 barrierCommandAt run b i = getD (barriersRecorded run (b .count)) i PopDebugGroup
 
 abbrev pub BarriersOf : List ℕ → ℕ → State → Meaning → BarrierPlan → Type 0
-BarriersOf run room s m p = Right room s m (p .outcome) (p .next) (p .batch .at) (p .batch .n) (barrierCommandAt run (p .batch)) (BarrierAllowed run (p .batch))
+BarriersOf run room s m p = Right room s m (p .outcome) (withProgress (p .progress) s) (p .batch .at) (p .batch .n) (barrierCommandAt run (p .batch)) (BarrierAllowed run (p .batch))
 
-abbrev pub barrierAnswer : BarrierPlan → Answer
-barrierAnswer p = record { outcome = p .outcome; state = p .next }
+abbrev pub barrierAnswer : BarrierPlan → State → Answer
+barrierAnswer p s = movedAnswer (p .outcome) (p .progress) s

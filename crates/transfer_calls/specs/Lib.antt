@@ -1,3 +1,4 @@
+pub mod Moved
 pub mod Barriers
 pub mod Regions
 pub mod Resolved

@@ -8,10 +8,12 @@ use Rattle.records.specs.declared.command.Command.the-variants.{PopDebugGroup}
 use Rattle.records.specs.declared.state.Answer.{Answer}
 use Rattle.records.specs.declared.state.State.{State}
 use Rattle.calls.specs.Meaning.{Meaning}
+use Rattle.calls.specs.Parts.{withProgress}
 use Rattle.calls.specs.Planned.{Right}
 use Rattle.calls.specs.Transfers.{regionsOf, copyCommand}
 use Rattle.transfer_calls.specs.declared.regions.Copies.{Copies}
 use Rattle.transfer_calls.specs.declared.regions.CopyPlan.{CopyPlan}
+use Rattle.transfer_calls.specs.Moved.{movedAnswer}
 
 -- region i of a run
 abbrev pub regionAt : List ℕ → ℕ → BufferCopy
@@ -28,7 +30,7 @@ abbrev pub copyAt : List ℕ → Copies → ℕ → Command
 copyAt run b i = getD (copiesRecorded run b) i PopDebugGroup
 
 abbrev pub CopiesOf : List ℕ → ℕ → State → Meaning → CopyPlan → Type 0
-CopiesOf run room s m p = Right room s m (p .outcome) (p .next) (p .batch .at) (p .batch .n) (copyAt run (p .batch)) (CopyAllowed run (p .batch))
+CopiesOf run room s m p = Right room s m (p .outcome) (withProgress (p .progress) s) (p .batch .at) (p .batch .n) (copyAt run (p .batch)) (CopyAllowed run (p .batch))
 
-abbrev pub copyAnswer : CopyPlan → Answer
-copyAnswer p = record { outcome = p .outcome; state = p .next }
+abbrev pub copyAnswer : CopyPlan → State → Answer
+copyAnswer p s = movedAnswer (p .outcome) (p .progress) s

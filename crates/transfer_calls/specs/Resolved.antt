@@ -9,10 +9,12 @@ use Rattle.records.specs.declared.outcome.Outcome.{Outcome}
 use Rattle.records.specs.declared.state.Answer.{Answer}
 use Rattle.records.specs.declared.state.State.{State}
 use Rattle.calls.specs.Meaning.{Meaning}
+use Rattle.calls.specs.Parts.{withProgress}
 use Rattle.calls.specs.Planned.{queryRooms, Put, Laid, Answered, stateIn}
 use Rattle.calls.specs.Step.{outcomeOf}
 use Rattle.transfer_calls.specs.declared.resolved.Resolved.{Resolved}
 use Rattle.transfer_calls.specs.declared.resolved.ResolvedPlan.{ResolvedPlan}
+use Rattle.transfer_calls.specs.Moved.{movedAnswer}
 
 abbrev pub resolvedAt : Resolved → ℕ → Command
 resolvedAt b i = CopyQueryResults (b .range) (b .dst) (b .target) (b .offset)
@@ -31,7 +33,7 @@ queriesCopied set p queries = filled (queryFrom set p) queries (p .to) (p .size)
 -- right for a call with this outcome, next state, commands and queries
 abbrev pub ResolvedFor : List ℕ → ℕ → ℕ → State → Outcome → State → List Command → List ℕ → ResolvedPlan → Type 0
 ResolvedFor set room queries s o after cs qs p =
-    Answered s o after (p .outcome) (p .next)
+    Answered s o after (p .outcome) (withProgress (p .progress) s)
     × Laid room s o cs (p .batch .at) (p .batch .n) (resolvedAt (p .batch))
     × Put queries (s .progress .queries) o qs 0 (p .to) (p .size) (queryFrom set p)
     × (p .from + p .size ≤ length set)
@@ -40,5 +42,5 @@ ResolvedFor set room queries s o after cs qs p =
 abbrev pub ResolvedOf : List ℕ → ℕ → ℕ → State → Meaning → ResolvedPlan → Type 0
 ResolvedOf set room queries s m p = ResolvedFor set room queries s (outcomeOf (queryRooms room queries) s m) (stateIn m) (m .commands) (m .queries) p
 
-abbrev pub resolvedAnswer : ResolvedPlan → Answer
-resolvedAnswer p = record { outcome = p .outcome; state = p .next }
+abbrev pub resolvedAnswer : ResolvedPlan → State → Answer
+resolvedAnswer p s = movedAnswer (p .outcome) (p .progress) s

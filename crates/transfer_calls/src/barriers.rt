@@ -13,11 +13,13 @@ ghost use Rattle.calls.specs.Transfers.{bufferBarriers, bufferBarrierCommands, 
 ghost use Rattle.transfer_calls.specs.Barriers.{barrierAt, Recorded, BarrierAllowed, barrierCommandAt, barrierAnswer};
 use crate::threes::elements;
 use bindings::group::one_if;
+use calls::parts::with_progress;
 use records::check::within;
 use records::command::Command;
 use records::command::Record;
 use records::outcome::Outcome;
 use records::state::Answer;
+use records::state::Progress;
 use records::state::State;
 
 // Where the commands go, how many they are, and how many barriers are read.
@@ -28,7 +30,7 @@ pub struct Barriers {
 }
 
 pub struct BarrierPlan {
-    pub next: State,
+    pub progress: Progress,
     pub batch: Barriers,
     pub outcome: Outcome,
 }
@@ -148,21 +150,20 @@ fn barriers_count(batch: Barriers) -> usize
     batch.n
 }
 
-pub fn barriers_answer(plan: BarrierPlan) -> Answer
-    ensures { λ r. ⌜ r ≡ barrierAnswer plan ⌝ }
+pub fn barriers_answer(plan: BarrierPlan, s: State) -> Answer
+    ensures { λ r. ⌜ r ≡ barrierAnswer plan s ⌝ }
 {
-    let state = plan.next;
     let outcome = plan.outcome;
+    let state = with_progress(s, plan.progress);
     Answer { outcome, state }
 }
 
-pub fn commit_barriers(list: &mut [Record], run: &[u32], plan: BarrierPlan) -> Answer
+pub fn record_barriers(list: &mut [Record], run: &[u32], plan: BarrierPlan)
     requires { ⌜ (plan .batch .at + plan .batch .n ≤ length (now list)) × ((i : ℕ) → i < plan .batch .n → BarrierAllowed (now run) (plan .batch) i) ⌝ }
-    ensures { λ r. ⌜ (r ≡ barrierAnswer plan) × (now (list .exit) ≡ filled (λ i. recordOf (barrierCommandAt (now (run .entry)) (plan .batch) i)) (now (list .entry)) (plan .batch .at) (plan .batch .n)) ⌝ }
+    ensures { λ _. ⌜ now (list .exit) ≡ filled (λ i. recordOf (barrierCommandAt (now (run .entry)) (plan .batch) i)) (now (list .entry)) (plan .batch .at) (plan .batch .n) ⌝ }
 {
     let batch = barriers_batch(plan);
     let at = barriers_at(batch);
     let n = barriers_count(batch);
     fill_barriers(list, run, at, n, batch);
-    barriers_answer(plan)
 }

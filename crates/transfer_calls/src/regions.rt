@@ -9,12 +9,14 @@ ghost use Rattle.calls.specs.Did.{recordOf};
 ghost use Rattle.calls.specs.Transfers.{regionsOf, emptyCopy, copyCommand};
 ghost use Rattle.transfer_calls.specs.Regions.{regionAt, CopyAllowed, copyAt, copyAnswer};
 use crate::threes::elements;
+use calls::parts::with_progress;
 use records::args::Buffer;
 use records::command::BufferCopy;
 use records::command::Command;
 use records::command::Record;
 use records::outcome::Outcome;
 use records::state::Answer;
+use records::state::Progress;
 use records::state::State;
 
 const COPY_READ_BUFFER: u32 = 0x8f36;
@@ -31,7 +33,7 @@ pub struct Copies {
 }
 
 pub struct CopyPlan {
-    pub next: State,
+    pub progress: Progress,
     pub batch: Copies,
     pub outcome: Outcome,
 }
@@ -131,21 +133,20 @@ fn copies_count(batch: Copies) -> usize
     batch.n
 }
 
-pub fn copies_answer(plan: CopyPlan) -> Answer
-    ensures { λ r. ⌜ r ≡ copyAnswer plan ⌝ }
+pub fn copies_answer(plan: CopyPlan, s: State) -> Answer
+    ensures { λ r. ⌜ r ≡ copyAnswer plan s ⌝ }
 {
-    let state = plan.next;
     let outcome = plan.outcome;
+    let state = with_progress(s, plan.progress);
     Answer { outcome, state }
 }
 
-pub fn commit_copies(list: &mut [Record], run: &[u64], plan: CopyPlan) -> Answer
+pub fn record_copies(list: &mut [Record], run: &[u64], plan: CopyPlan)
     requires { ⌜ (plan .batch .at + plan .batch .n ≤ length (now list)) × ((i : ℕ) → i < plan .batch .n → CopyAllowed (now run) (plan .batch) i) ⌝ }
-    ensures { λ r. ⌜ (r ≡ copyAnswer plan) × (now (list .exit) ≡ filled (λ i. recordOf (copyAt (now (run .entry)) (plan .batch) i)) (now (list .entry)) (plan .batch .at) (plan .batch .n)) ⌝ }
+    ensures { λ _. ⌜ now (list .exit) ≡ filled (λ i. recordOf (copyAt (now (run .entry)) (plan .batch) i)) (now (list .entry)) (plan .batch .at) (plan .batch .n) ⌝ }
 {
     let batch = copies_batch(plan);
     let at = copies_at(batch);
     let n = copies_count(batch);
     fill_copies(list, run, at, n, batch);
-    copies_answer(plan)
 }

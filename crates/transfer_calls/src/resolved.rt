@@ -7,12 +7,14 @@ ghost use Rattle.walks.specs.Fill.{filled};
 ghost use Rattle.calls.specs.Did.{recordOf};
 ghost use Rattle.calls.specs.Transfers.{queriesIn};
 ghost use Rattle.transfer_calls.specs.Resolved.{resolvedAt, resolvedAnswer, QueriesFit, queriesCopied};
+use calls::parts::with_progress;
 use records::check::within;
 use records::command::Command;
 use records::command::RangeU32;
 use records::command::Record;
 use records::outcome::Outcome;
 use records::state::Answer;
+use records::state::Progress;
 use records::state::State;
 
 // Where the command goes and whether there is one, the range of the query list, and where its
@@ -28,7 +30,7 @@ pub struct Resolved {
 
 // `size` queries of the set, from `from` on, go to the query list from `to` on.
 pub struct ResolvedPlan {
-    pub next: State,
+    pub progress: Progress,
     pub batch: Resolved,
     pub outcome: Outcome,
     pub from: usize,
@@ -114,21 +116,20 @@ fn resolved_count(batch: Resolved) -> usize
     batch.n
 }
 
-pub fn resolved_answer(plan: ResolvedPlan) -> Answer
-    ensures { λ r. ⌜ r ≡ resolvedAnswer plan ⌝ }
+pub fn resolved_answer(plan: ResolvedPlan, s: State) -> Answer
+    ensures { λ r. ⌜ r ≡ resolvedAnswer plan s ⌝ }
 {
-    let state = plan.next;
     let outcome = plan.outcome;
+    let state = with_progress(s, plan.progress);
     Answer { outcome, state }
 }
 
-pub fn commit_resolved(list: &mut [Record], plan: ResolvedPlan) -> Answer
+pub fn record_resolved(list: &mut [Record], plan: ResolvedPlan)
     requires { ⌜ (plan .batch .at + plan .batch .n ≤ length (now list)) × ((i : ℕ) → i < plan .batch .n → i < 1) ⌝ }
-    ensures { λ r. ⌜ (r ≡ resolvedAnswer plan) × (now (list .exit) ≡ filled (λ i. recordOf (resolvedAt (plan .batch) i)) (now (list .entry)) (plan .batch .at) (plan .batch .n)) ⌝ }
+    ensures { λ _. ⌜ now (list .exit) ≡ filled (λ i. recordOf (resolvedAt (plan .batch) i)) (now (list .entry)) (plan .batch .at) (plan .batch .n) ⌝ }
 {
     let batch = resolved_batch(plan);
     let at = resolved_at(batch);
     let n = resolved_count(batch);
     fill_resolved(list, at, n, batch);
-    resolved_answer(plan)
 }

@@ -6,19 +6,20 @@ ghost use Rattle.calls.specs.Step.{copyQueryResults};
 ghost use Rattle.transfer_calls.specs.Resolved.{ResolvedOf};
 use crate::resolved::Resolved;
 use crate::resolved::ResolvedPlan;
-use crate::resolved::commit_resolved;
 use crate::resolved::copy_queries;
 use crate::resolved::query_count;
 use crate::resolved::range_of;
+use crate::resolved::record_resolved;
+use crate::resolved::resolved_answer;
 use calls::judge::Counts;
 use calls::judge::judge;
 use calls::judge::query_rooms;
 use calls::judge::spot_of;
-use calls::parts::with_progress;
 use calls::phase::in_open;
 use calls::phase::run_asks;
 use pass::marks::over_run;
 use records::args::Buffer;
+use records::check::broken_limits;
 use records::command::Record;
 use records::pipeline::PrivateCapabilities;
 use records::state::Answer;
@@ -58,7 +59,8 @@ pub fn plan_copy_query_results(
     let c = run_asks(in_open(phase), range, short);
     let rooms = query_rooms(room, queries_room);
     let more = one_and(size);
-    let v = judge(rooms, s, c, phase, more);
+    let broken = broken_limits(s);
+    let v = judge(rooms, broken, p, c, phase, more);
     let place = spot_of(v.ok, p.commands, 1);
     let put = spot_of(v.ok, p.queries, size);
     // Of a call that is turned away no query is read.
@@ -66,9 +68,8 @@ pub fn plan_copy_query_results(
     let range = range_of(put.at, put.n);
     let outcome = v.outcome;
     let progress = v.progress;
-    let next = with_progress(s, progress);
     ResolvedPlan {
-        next,
+        progress,
         batch: Resolved {
             at: place.at,
             n: place.n,
@@ -113,5 +114,6 @@ pub fn copy_query_results(
         offset,
     );
     copy_queries(queries, set, plan);
-    commit_resolved(list, plan)
+    record_resolved(list, plan);
+    resolved_answer(plan, s)
 }

@@ -11,21 +11,23 @@ use crate::barriers::BarrierPlan;
 use crate::barriers::Barriers;
 use crate::barriers::barrier_absent;
 use crate::barriers::barrier_count;
-use crate::barriers::commit_barriers;
+use crate::barriers::barriers_answer;
+use crate::barriers::record_barriers;
 use crate::regions::Copies;
 use crate::regions::CopyPlan;
-use crate::regions::commit_copies;
+use crate::regions::copies_answer;
 use crate::regions::empty_region;
+use crate::regions::record_copies;
 use crate::regions::region_count;
 use crate::threes::over_run;
 use calls::judge::commands_only;
 use calls::judge::judge;
 use calls::judge::list_rooms;
 use calls::judge::spot_of;
-use calls::parts::with_progress;
 use calls::phase::in_open;
 use calls::phase::run_asks;
 use records::args::Buffer;
+use records::check::broken_limits;
 use records::command::Record;
 use records::outcome::Conditions;
 use records::pipeline::PrivateCapabilities;
@@ -72,13 +74,13 @@ pub fn plan_transition_buffers(
     let c = barrier_asks(in_open(phase), absent, short);
     let rooms = list_rooms(room);
     let more = commands_only(n);
-    let v = judge(rooms, s, c, phase, more);
+    let broken = broken_limits(s);
+    let v = judge(rooms, broken, p, c, phase, more);
     let place = spot_of(v.ok, p.commands, n);
     let outcome = v.outcome;
     let progress = v.progress;
-    let next = with_progress(s, progress);
     BarrierPlan {
-        next,
+        progress,
         batch: Barriers {
             at: place.at,
             n: place.n,
@@ -98,7 +100,8 @@ pub fn transition_buffers(
     ensures { λ r. ⌜ Lists caps s (transition-buffers (record { run = now (barriers .entry); count = count })) (now (list .entry)) r (now (list .exit)) ⌝ }
 {
     let plan = plan_transition_buffers(barriers, list.len(), count, caps, s);
-    commit_barriers(list, barriers, plan)
+    record_barriers(list, barriers, plan);
+    barriers_answer(plan, s)
 }
 
 pub fn plan_copy_buffer_to_buffer(
@@ -120,13 +123,13 @@ pub fn plan_copy_buffer_to_buffer(
     let c = run_asks(in_open(phase), range, short);
     let rooms = list_rooms(room);
     let more = commands_only(n);
-    let v = judge(rooms, s, c, phase, more);
+    let broken = broken_limits(s);
+    let v = judge(rooms, broken, p, c, phase, more);
     let place = spot_of(v.ok, p.commands, n);
     let outcome = v.outcome;
     let progress = v.progress;
-    let next = with_progress(s, progress);
     CopyPlan {
-        next,
+        progress,
         batch: Copies {
             at: place.at,
             n: place.n,
@@ -150,5 +153,6 @@ pub fn copy_buffer_to_buffer(
     ensures { λ r. ⌜ Lists caps s (copy-buffer-to-buffer src dst (record { run = now (regions .entry); count = count })) (now (list .entry)) r (now (list .exit)) ⌝ }
 {
     let plan = plan_copy_buffer_to_buffer(regions, list.len(), count, caps, s, src, dst);
-    commit_copies(list, regions, plan)
+    record_copies(list, regions, plan);
+    copies_answer(plan, s)
 }

@@ -52,6 +52,9 @@ list-rooms-requires c κs = search needs
 commands-only-requires : tie.Need-commands-only-requires
 commands-only-requires c κs = search needs
 
+broken-limits-requires : tie.Need-broken-limits-requires
+broken-limits-requires c κs = search needs
+
 judge-requires : tie.Need-judge-requires
 judge-requires c κs = search needs
 
@@ -61,17 +64,11 @@ spot-of-requires c κs = search needs
 taken-bind-requires : tie.Need-taken-bind-requires
 taken-bind-requires c κs = search needs
 
-with-progress-requires : tie.Need-with-progress-requires
-with-progress-requires c κs = search needs
-
-with-bind-requires : tie.Need-with-bind-requires
-with-bind-requires c κs = search needs
-
 returns : tie.Need-returns
 unfolding outcomeOf
 returns c =
-    let v = c .before .before .before .before in
-    let e = v .before .before .before .before .before in
+    let v = c .before .before in
+    let e = v .before .before .before .before .before .before in
     let a = e .before .before .before .before .before .before .before .before .before .args in
     let s = a .s in
     let phase = s .progress .phase in
@@ -98,9 +95,9 @@ returns c =
       sum = m .asks .sum;
       room = m .asks .room;
     } in
-    let k = found (a .room) s asks phase cs _ _ _ _ (v .before .before .before .list-rooms .ensures) (rw (swept .0, more) (sym (length-append gs (samplerCommands new units)))) (v .before .before .commands-only .ensures)
-    (rw (v .before .before .before .before .group-asks .ensures, swept .5, swept .6, swept .7, swept .8, e .over-run .ensures) at (v .before .judge .ensures)) (v .spot-of .ensures) in
-    let after = bind-moved _ _ new _ s _ _ _ _ (c .with-bind .ensures) (c .before .with-progress .ensures) (c .before .before .taken-bind .ensures) (swept .2) (k .sure) in (
+    let k = found (a .room) s asks phase cs _ _ _ _ _ (v .before .before .before .before .list-rooms .ensures) (v .before .before .broken-limits .ensures) (rw (swept .0, more) (sym (length-append gs (samplerCommands new units)))) (v .before .before .before .commands-only .ensures)
+    (rw (v .before .before .before .before .before .group-asks .ensures, swept .5, swept .6, swept .7, swept .8, e .over-run .ensures) at (v .before .judge .ensures)) (v .spot-of .ensures) in
+    let after = bind-moved _ _ new _ s _ _ (c .taken-bind .ensures) (swept .2) (k .sure) in (
       (k .said, next (a .room) s asks phase cs k (withBind new s) _ after),
       laid (a .room) s asks phase cs _ _ _ (k .here) (k .many) (λ h i l. ap (λ (x : List Command). getD x i PopDebugGroup) all),
       λ i h.
@@ -124,9 +121,8 @@ plan-set-bind-group-spec =
     group-asks-requires
     list-rooms-requires
     commands-only-requires
+    broken-limits-requires
     judge-requires
     spot-of-requires
     taken-bind-requires
-    with-progress-requires
-    with-bind-requires
     returns)

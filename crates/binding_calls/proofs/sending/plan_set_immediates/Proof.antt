@@ -23,6 +23,9 @@ work-out-requires c κs = search needs
 byte-rooms-requires : tie.Need-byte-rooms-requires
 byte-rooms-requires c κs = search needs
 
+broken-limits-requires : tie.Need-broken-limits-requires
+broken-limits-requires c κs = search needs
+
 judge-requires : tie.Need-judge-requires
 judge-requires c κs = search needs
 
@@ -32,20 +35,14 @@ spot-of-requires c κs = search needs
 spot-of-requires-2 : tie.Need-spot-of-requires-2
 spot-of-requires-2 c κs = search needs
 
-taken-immediates-requires : tie.Need-taken-immediates-requires
-taken-immediates-requires c κs = search needs
-
-with-progress-requires : tie.Need-with-progress-requires
-with-progress-requires c κs = search needs
-
-with-immediates-requires : tie.Need-with-immediates-requires
-with-immediates-requires c κs = search needs
+taken-words-requires : tie.Need-taken-words-requires
+taken-words-requires c κs = search needs
 
 returns : tie.Need-returns
 returns c =
     let placed = c .before .before .before .before in
     let judging = placed .before .before in
-    let working = judging .before .before .before .before in
+    let working = judging .before .before .before .before .before in
     let asking = working .before in
     let a = asking .before .before .before .before .before .before .before .args in
     let ws : Lent = record { run = a .words .now; count = a .count } in
@@ -56,10 +53,11 @@ returns c =
       asking .before .in-pass .ensures,
       asking .before .before .over-run .ensures,
       asking .before .before .before .out-of-range .ensures,
-      judging .before .byte-rooms .ensures,
+      judging .before .before .byte-rooms .ensures,
+      judging .before .broken-limits .ensures,
     ) at (judging .judge .ensures) in
     planned (a .room) (a .bytes-room) (a .s) (a .offset) ws (w .result) (w .ensures) (verdict (a .room) (a .bytes-room) (a .s) (a .offset) ws (w .result) (w .ensures) v)
-    _ _ _ _ _ _ _ (c .with-immediates .ensures) (c .before .with-progress .ensures) (c .before .before .taken-immediates .ensures)
+    _ _ _ _ _ (c .taken-words .ensures)
     (placed .before .spot-of .ensures) (placed .spot-of2 .ensures)
 
 pub plan-set-immediates-spec : {M : Type 1} → statement M
@@ -72,10 +70,9 @@ plan-set-immediates-spec =
     immediate-asks-requires
     work-out-requires
     byte-rooms-requires
+    broken-limits-requires
     judge-requires
     spot-of-requires
     spot-of-requires-2
-    taken-immediates-requires
-    with-progress-requires
-    with-immediates-requires
+    taken-words-requires
     returns)

@@ -1,7 +1,7 @@
 -- `draw_calls::drawing::plan_drawing` meets its contract. Assumes nothing.
-use mathlib.Core.Bool.{Bool, false, not, _||_}
+use mathlib.Core.Bool.{false, not, _||_}
 use mathlib.Core.List.{_++_}
-use mathlib.Core.Path.{_≡_, refl, sym, ap, _∙_}
+use mathlib.Core.Path.{refl, sym}
 use lib.ListN.{length, length-append}
 use Rattle.slots.specs.Prepare.{prepared, preparedOver, preparedState}
 use Rattle.records.specs.declared.outcome.Conditions.{Conditions}
@@ -47,36 +47,33 @@ judge-requires c κs = search needs
 spot-of-requires : tie.Need-spot-of-requires
 spot-of-requires c κs = search needs
 
-stepped-requires : tie.Need-stepped-requires
-stepped-requires c κs = search needs
+pick-requires : tie.Need-pick-requires
+pick-requires c κs = search needs
 
-with-progress-requires : tie.Need-with-progress-requires
-with-progress-requires c κs = search needs
-
-with-vertex-requires : tie.Need-with-vertex-requires
-with-vertex-requires c κs = search needs
+pick-requires-2 : tie.Need-pick-requires-2
+pick-requires-2 c κs = search needs
 
 returns : tie.Need-returns
 unfolding outcomeOf
 returns c =
-    λ own-fits.
-    let a = c .before .before .before .before .before .before .before .before .before .before .before .before .before .before .before .args in
+    λ held own-fits.
+    let a = c .before .before .before .before .before .before .before .before .before .before .before .before .before .before .args in
     let s = a .s in
-    let ready = c .before .before .before .before .before .before .before .before .before .before .before .before .prepare .ensures in
-    let own = c .before .before .before .before .before .before .before .before .before .before .own-count .ensures in
+    let ready = c .before .before .before .before .before .before .before .before .before .before .before .prepare .ensures in
+    let own = c .before .before .before .before .before .before .before .before .before .own-count in
     let ps = prepared (a .caps) (s .vertex) (a .w) in
     let cs = ps ++ ownCommands (a .own) in
     let asks : Conditions =
     record { phase = not (inRender (s .progress .phase)); many = false; range = false; absent = a .absent; kind = false; sum = preparedOver (a .caps) (s .vertex) (a .w) || a .over; room = false } in
-    let k = found (a .room) s asks (s .progress .phase) cs _ _ _ _ (c .before .before .before .before .before .before .before .before .before .list-rooms .ensures) (rw (ready .0, own) (sym (length-append ps (ownCommands (a .own))))) (c .before .before .before .before .before .before .before .before .commands-only .ensures)
-    (rw (c .before .before .before .before .before .before .before .in-render .ensures, ready .3) at (c .before .before .before .before .before .judge .ensures)) (c .before .before .before .before .spot-of .ensures) in
-    let after = vertex-moved _ _ _ (a .w) (preparedState (a .caps) (s .vertex) (a .w)) s _ _ _ _ (c .with-vertex .ensures) (c .before .with-progress .ensures) (c .before .before .stepped .ensures) (k .sure) (ready .2) refl in (
+    let k = found (a .room) s asks (s .progress .phase) cs _ _ _ _ _ (c .before .before .before .before .before .before .before .before .list-rooms .ensures) held (rw (ready .0, own .ensures) (sym (length-append ps (ownCommands (a .own))))) (c .before .before .before .before .before .before .before .commands-only .ensures)
+    (rw (c .before .before .before .before .before .before .in-render .ensures, ready .3) at (c .before .before .before .before .judge .ensures)) (c .before .before .before .spot-of .ensures) in
+    let after = vertex-moved _ _ _ (a .w) _ _ _ s _ (c .before .pick .ensures) (c .pick2 .ensures) (k .sure) (ready .2) in (
       (k .said, next (a .room) s asks (s .progress .phase) cs k (withVertex (preparedState (a .caps) (s .vertex) (a .w)) s) _ after),
       laid (a .room) s asks (s .progress .phase) cs _ _ _ (k .here) (k .many) (λ h i l. refl),
       λ i h.
           let w = some-written (a .room) s asks (s .progress .phase) cs k i h in
           let o = neither (preparedOver (a .caps) (s .vertex) (a .w)) (a .over) (no-sum (listRooms (a .room)) s asks (s .progress .phase) (commandsOnly (length cs)) (w .0)) in
-          (w .1, record { places = ready .1; first = ready .0; slots-fit = o .0; own-fits = own-fits (o .1); own-small = rw (sym own) (c .before .before .before .before .before .before .before .before .before .before .own-count .ok) }),
+          (w .1, record { places = ready .1; first = ready .0; slots-fit = o .0; own-fits = own-fits (o .1); own-small = rw (sym (own .ensures)) (own .ok) }),
     )
 
 pub plan-drawing-spec : {M : Type 1} → statement M
@@ -93,7 +90,6 @@ plan-drawing-spec =
     in-render-requires
     judge-requires
     spot-of-requires
-    stepped-requires
-    with-progress-requires
-    with-vertex-requires
+    pick-requires
+    pick-requires-2
     returns)

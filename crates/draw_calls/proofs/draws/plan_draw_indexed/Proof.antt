@@ -1,12 +1,11 @@
 -- `draw_calls::draws::plan_draw_indexed` meets its contract. Assumes nothing.
 use Prim.Native.Nat.{_^_}
 use mathlib.Core.Bool.{false}
-use mathlib.Core.List.{List, [], _∷_}
-use mathlib.Core.Path.{_≡_, refl, sym, ap, _∙_}
+use mathlib.Core.List.{[], _∷_}
+use mathlib.Core.Path.{refl}
 use borrow.Author.Tests.{leb-false}
 use mir.Syntax.{w32}
 use mir.ValLaws.{toZ-ofZ}
-use Rattle.records.specs.declared.command.Command.{Command}
 use Rattle.slots.specs.Prepare.{working}
 use Rattle.calls.specs.Draws.{drawIndexedCommand, indexOver, indexOffset}
 use Rattle.calls.specs.Parts.{drawArgs}
@@ -14,6 +13,9 @@ use Rattle.draw_calls.proofs.Swapped.{swapped}
 use borrow.Author.Needs.{needs}
 use Rattle.draw_calls.proofs.draws.plan_draw_indexed.Statement.{statement}
 use Rattle.draw_calls.proofs.draws.plan_draw_indexed.Tie as tie
+
+broken-limits-requires : tie.Need-broken-limits-requires
+broken-limits-requires c κs = search needs
 
 working-requires : tie.Need-working-requires
 working-requires c κs = search needs
@@ -32,7 +34,7 @@ plan-drawing-requires c κs = search needs
 
 returns : tie.Need-returns
 returns c =
-    let st = c .before .before .before .before .before .before in
+    let st = c .before .before .before .before .before .before .before in
     let a = st .args in
     let d = drawArgs (a .s .draw) in
     let over = c .before .before .before .index-over .ensures in
@@ -40,12 +42,13 @@ returns c =
     swapped (a .room) (a .caps) (a .s) (working (a .caps) (a .first-instance)) false (indexOver d (a .first-index)) _
     (drawIndexedCommand d (a .first-index) (a .index-count) (a .base-vertex) (a .first-instance) (a .instance-count) ∷ []) refl
     (λ h. rw (c .before .before .index-type .ensures, c .before .index-offset .ensures (leb-false (2 ^ 64) (indexOffset d (a .first-index)) h), z)) _
-    (rw (c .before .before .before .before .working .ensures, over) at (c .plan-drawing .ensures (λ h. refl)))
+    (rw (c .before .before .before .before .working .ensures, over) at (c .plan-drawing .ensures (c .before .before .before .before .before .before .broken-limits .ensures) (λ h. refl)))
 
 pub plan-draw-indexed-spec : {M : Type 1} → statement M
 plan-draw-indexed-spec =
     tie.close
     (tie.spec
+    broken-limits-requires
     working-requires
     index-over-requires
     index-type-requires

@@ -5,6 +5,9 @@ use borrow.Author.Needs.{needs}
 use Rattle.draw_calls.proofs.draws.plan_draw_indirect.Statement.{statement}
 use Rattle.draw_calls.proofs.draws.plan_draw_indirect.Tie as tie
 
+broken-limits-requires : tie.Need-broken-limits-requires
+broken-limits-requires c κs = search needs
+
 indirect-absent-requires : tie.Need-indirect-absent-requires
 indirect-absent-requires c κs = search needs
 
@@ -16,9 +19,14 @@ plan-drawing-requires c κs = search needs
 
 returns : tie.Need-returns
 unfolding indirectCommands
-returns c = rw (c .before .before .indirect-absent .ensures, c .before .indirect-over .ensures) at (c .plan-drawing .ensures (λ h. sym (c .before .indirect-over .ensures) ∙ h))
+returns c = rw (c .before .before .indirect-absent .ensures, c .before .indirect-over .ensures) at (c .plan-drawing .ensures (c .before .before .before .before .broken-limits .ensures) (λ h. sym (c .before .indirect-over .ensures) ∙ h))
 
 pub plan-draw-indirect-spec : {M : Type 1} → statement M
 plan-draw-indirect-spec =
     tie.close
-    (tie.spec indirect-absent-requires indirect-over-requires plan-drawing-requires returns)
+    (tie.spec
+    broken-limits-requires
+    indirect-absent-requires
+    indirect-over-requires
+    plan-drawing-requires
+    returns)

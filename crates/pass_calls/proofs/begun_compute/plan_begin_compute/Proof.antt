@@ -41,12 +41,12 @@ plan-mark-requires c κs = search needs
 
 returns : tie.Need-returns
 returns c =
-    let a = c .before .before .before .before .before .before .before .before .before .before .before .before .before .before .args in
+    let a = c .before .before .before .before .before .before .before .before .before .before .before .before .before .before .before .args in
     let set : Lent = record { run = now (a .set); count = a .set-count } in
-    let n = c .before .before .before .opening-count in
+    let n = c .before .before .before .before .opening-count in
     compute-right (a .s) (a .t) set (a .room) (a .bytes-room) (a .label-len) (a .has-label) (a .label-count) _ _ _ _ _ _
-    (rw (c .before .before .before .before .before .before .before .in-open .ensures, c .before .before .before .before .before .before .before .before .before .before .timestamps-out .ensures (now (a .set)), c .before .before .before .before .before .before .before .before .before .label-short .ensures, c .before .before .before .before .before .before .before .before .over-run .ensures) at (c .before .before .before .before .before .before .begin-asks .ensures))
-    (c .before .before .before .before .begin-query .ensures .1) (n .ensures .2) (n .ok) (c .before .before .before .before .before .label-size .ensures) (c .before .before .begin-compute-pass .ensures) (c .before .plan-mark .ensures)
+    (rw (c .before .before .before .before .before .before .before .before .in-open .ensures, c .before .before .before .before .before .before .before .before .before .before .before .timestamps-out .ensures (now (a .set)), c .before .before .before .before .before .before .before .before .before .before .label-short .ensures, c .before .before .before .before .before .before .before .before .before .over-run .ensures) at (c .before .before .before .before .before .before .before .begin-asks .ensures))
+    (c .before .before .before .before .before .begin-query .ensures .1) (n .ensures .2) (n .ok) (c .before .before .before .before .before .before .label-size .ensures) (c .before .before .before .begin-compute-pass .ensures) (c .before .before .plan-mark .ensures)
 
 pub plan-begin-compute-spec : {M : Type 1} → statement M
 plan-begin-compute-spec =

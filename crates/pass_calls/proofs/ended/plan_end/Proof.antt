@@ -34,6 +34,9 @@ list-rooms-requires c κs = search needs
 commands-only-requires : tie.Need-commands-only-requires
 commands-only-requires c κs = search needs
 
+broken-limits-requires : tie.Need-broken-limits-requires
+broken-limits-requires c κs = search needs
+
 judge-requires : tie.Need-judge-requires
 judge-requires c κs = search needs
 
@@ -49,32 +52,19 @@ taken-fixed-requires c κs = search needs
 taken-pass-requires : tie.Need-taken-pass-requires
 taken-pass-requires c κs = search needs
 
-with-progress-requires : tie.Need-with-progress-requires
-with-progress-requires c κs = search needs
-
-with-pass-requires : tie.Need-with-pass-requires
-with-pass-requires c κs = search needs
-
-with-fixed-requires : tie.Need-with-fixed-requires
-with-fixed-requires c κs = search needs
-
-with-vertex-requires : tie.Need-with-vertex-requires
-with-vertex-requires c κs = search needs
-
 returns : tie.Need-returns
 unfolding outcomeOf
 returns c =
-    let a = c .before .before .before .before .before .before .before .before .before .before .before .before .before .before .before .before .before .before .before .args in
+    let a = c .before .before .before .before .before .before .before .before .before .before .before .before .before .before .before .before .args in
     let s = a .s in
     let cs = endOf (a .render) (s .pass) (s .vertex) in
-    let count = c .before .before .before .before .before .before .before .before .before .before .before .before .before .before .end-count in
+    let count = c .before .before .before .before .before .before .before .before .before .before .before .end-count in
     let asks : Conditions =
     record { phase = not (cond (a .render) (inRender (s .progress .phase)) (inCompute (s .progress .phase))); many = false; range = false; absent = false; kind = false; sum = false; room = false } in
-    let k = found (a .room) s asks Open cs _ _ _ _ (c .before .before .before .before .before .before .before .before .before .before .before .list-rooms .ensures) (count .ensures) (c .before .before .before .before .before .before .before .before .before .before .commands-only .ensures)
-    (rw (c .before .before .before .before .before .before .before .before .before .before .before .before .in-phase .ensures, c .before .before .before .before .before .before .before .before .before .before .before .before .before .ends-in .ensures) at (c .before .before .before .before .before .before .before .before .before .judge .ensures)) (c .before .before .before .before .before .before .before .before .spot-of .ensures) in
+    let k = found (a .room) s asks Open cs _ _ _ _ _ (c .before .before .before .before .before .before .before .before .list-rooms .ensures) (c .before .before .before .before .before .before .broken-limits .ensures) (count .ensures) (c .before .before .before .before .before .before .before .commands-only .ensures)
+    (rw (c .before .before .before .before .before .before .before .before .before .in-phase .ensures, c .before .before .before .before .before .before .before .before .before .before .ends-in .ensures) at (c .before .before .before .before .before .judge .ensures)) (c .before .before .before .before .spot-of .ensures) in
     let after : State = withVertex (a .vertex) (withFixed (a .fixed) (withPass (a .pass) s)) in
-    let left = end-moved _ _ (a .vertex) (a .fixed) (a .pass) s _ _ _ _ _ _ _ _ (c .with-vertex .ensures) (c .before .with-fixed .ensures) (c .before .before .with-pass .ensures) (c .before .before .before .with-progress .ensures)
-    (c .before .before .before .before .before .before .taken-vertex .ensures) (c .before .before .before .before .before .taken-fixed .ensures) (c .before .before .before .before .taken-pass .ensures) (k .sure) in (
+    let left = end-moved _ _ (a .vertex) (a .fixed) (a .pass) s _ _ _ _ (c .before .before .taken-vertex .ensures) (c .before .taken-fixed .ensures) (c .taken-pass .ensures) (k .sure) in (
       (k .said, next (a .room) s asks Open cs k after _ left),
       laid (a .room) s asks Open cs _ _ _ (k .here) (k .many) (λ h i l. refl),
       λ i h.
@@ -92,13 +82,10 @@ plan-end-spec =
     in-phase-requires
     list-rooms-requires
     commands-only-requires
+    broken-limits-requires
     judge-requires
     spot-of-requires
     taken-vertex-requires
     taken-fixed-requires
     taken-pass-requires
-    with-progress-requires
-    with-pass-requires
-    with-fixed-requires
-    with-vertex-requires
     returns)

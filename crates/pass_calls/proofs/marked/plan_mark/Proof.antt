@@ -1,12 +1,14 @@
 -- `pass_calls::marked::plan_mark` meets its contract. Assumes nothing.
 use borrow.Author.Needs.{needs}
 use Rattle.pass_calls.proofs.Begun.{marked}
-use Rattle.pass_calls.proofs.Moved.{pass-moved}
 use Rattle.pass_calls.proofs.marked.plan_mark.Statement.{statement}
 use Rattle.pass_calls.proofs.marked.plan_mark.Tie as tie
 
 byte-rooms-requires : tie.Need-byte-rooms-requires
 byte-rooms-requires c κs = search needs
+
+broken-limits-requires : tie.Need-broken-limits-requires
+broken-limits-requires c κs = search needs
 
 judge-requires : tie.Need-judge-requires
 judge-requires c κs = search needs
@@ -20,29 +22,20 @@ spot-of-requires-2 c κs = search needs
 taken-pass-requires : tie.Need-taken-pass-requires
 taken-pass-requires c κs = search needs
 
-with-progress-requires : tie.Need-with-progress-requires
-with-progress-requires c κs = search needs
-
-with-pass-requires : tie.Need-with-pass-requires
-with-pass-requires c κs = search needs
-
 returns : tie.Need-returns
 returns c =
-    let a = c .before .before .before .before .before .before .before .before .before .before .args in
-    let s = a .s in
-    marked (a .room) (a .bytes-room) s (a .c) (a .phase) (a .n) (a .size) (a .pass) _ _ (c .before .before .before .before .before .before .judge .result .ok) _ (c .before .before .before .before .before .before .before .byte-rooms .ensures) (c .before .before .before .before .before .before .judge .ensures)
-    (c .before .before .before .before .before .spot-of .ensures) (c .before .before .before .before .spot-of2 .ensures)
-    (pass-moved (c .before .before .before .before .before .before .judge .result .ok) (a .pass) s _ _ _ _ (c .with-pass .ensures) (c .before .with-progress .ensures) (c .before .before .taken-pass .ensures))
+    let a = c .before .before .before .before .before .before .before .before .before .args in
+    marked (a .room) (a .bytes-room) (a .s) (a .c) (a .phase) (a .n) (a .size) (a .pass) _ _ _ (c .before .before .before .before .judge .result .ok) (c .before .before .before .before .before .before .byte-rooms .ensures) (c .before .before .before .before .before .broken-limits .ensures) (c .before .before .before .before .judge .ensures)
+    (c .before .before .before .spot-of .ensures) (c .before .before .spot-of2 .ensures) (c .taken-pass .ensures)
 
 pub plan-mark-spec : {M : Type 1} → statement M
 plan-mark-spec =
     tie.close
     (tie.spec
     byte-rooms-requires
+    broken-limits-requires
     judge-requires
     spot-of-requires
     spot-of-requires-2
     taken-pass-requires
-    with-progress-requires
-    with-pass-requires
     returns)

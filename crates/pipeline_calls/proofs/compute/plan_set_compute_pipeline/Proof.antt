@@ -10,6 +10,7 @@ use Rattle.calls.proofs.Plans.{found}
 use Rattle.calls.specs.Judge.{asking}
 use Rattle.pipeline_calls.proofs.Rights.{right, no-more}
 use Rattle.pipeline_calls.proofs.Sames.{inner-same}
+use Rattle.pipeline_calls.proofs.Taken.{shared-next}
 use borrow.Author.Needs.{needs}
 use Rattle.pipeline_calls.proofs.compute.plan_set_compute_pipeline.Statement.{statement}
 use Rattle.pipeline_calls.proofs.compute.plan_set_compute_pipeline.Tie as tie
@@ -32,6 +33,9 @@ commands-only-requires c κs = search needs
 compute-asks-requires : tie.Need-compute-asks-requires
 compute-asks-requires c κs = search needs
 
+broken-limits-requires : tie.Need-broken-limits-requires
+broken-limits-requires c κs = search needs
+
 judge-requires : tie.Need-judge-requires
 judge-requires c κs = search needs
 
@@ -41,24 +45,29 @@ spot-of-requires c κs = search needs
 inner-bind-requires : tie.Need-inner-bind-requires
 inner-bind-requires c κs = search needs
 
-compute-next-requires : tie.Need-compute-next-requires
-compute-next-requires c κs = search needs
+with-location-requires : tie.Need-with-location-requires
+with-location-requires c κs = search needs
+
+inner-immediates-requires : tie.Need-inner-immediates-requires
+inner-immediates-requires c κs = search needs
 
 returns : tie.Need-returns
 unfolding outcomeOf
 returns c =
-    let a = c .before .before .before .before .before .before .before .before .before .before .before .before .before .args in
+    let a = c .before .before .before .before .before .before .before .before .before .before .before .before .before .before .before .before .before .args in
     let s = a .s in
     let p = a .p .inner in
     let cs = innerCommands p (s .bind) in
     let asks = asking (inCompute (s .progress .phase)) (setComputePipeline s (a .p) .asks) in
-    let bind = c .before .inner-bind .ensures in
-    let same = inner-same p (s .bind) bind (c .before .before .before .before .before .before .before .before .before .changed-units .ensures) in
-    let l = c .before .before .before .before .before .before .before .before .inner-count .ensures in
+    let bind = c .before .before .inner-bind .ensures in
+    let same = inner-same p (s .bind) bind (c .before .before .before .before .before .before .before .before .before .before .before .changed-units .ensures) in
+    let l = c .before .before .before .before .before .before .before .before .before .before .inner-count .ensures in
     let many = l .0 (p .program) _ ∙ ap (λ (x : List Command). length x) same in
-    let k = found (a .room) s asks (s .progress .phase) cs _ _ _ _ (c .before .before .before .before .before .before .before .list-rooms .ensures) many (c .before .before .before .before .before .before .commands-only .ensures)
-    (rw (c .before .before .before .before .before .compute-asks .ensures s) at (c .before .before .before .before .judge .ensures)) (c .before .before .before .spot-of .ensures) in
-    right (a .room) s asks cs k (setComputePipeline s (a .p) .after) _ (c .compute-next .ensures bind) same _ (λ i h. (h, no-more same many (l .1)))
+    let v = c .before .before .before .before .before .judge .result in
+    let k = found (a .room) s asks (s .progress .phase) cs _ _ _ _ _ (c .before .before .before .before .before .before .before .before .before .list-rooms .ensures) (c .before .before .before .before .before .before .broken-limits .ensures) many (c .before .before .before .before .before .before .before .before .commands-only .ensures)
+    (rw (c .before .before .before .before .before .before .before .compute-asks .ensures s) at (c .before .before .before .before .before .judge .ensures)) (c .before .before .before .before .spot-of .ensures) in
+    right (a .room) s asks cs k (setComputePipeline s (a .p) .after) _ (shared-next (v .ok) s (v .progress) (c .before .with-location .ensures) bind (c .inner-immediates .ensures)) same _
+    (λ i h. (h, no-more same many (l .1)))
 
 pub plan-set-compute-pipeline-spec : {M : Type 1} → statement M
 plan-set-compute-pipeline-spec =
@@ -70,8 +79,10 @@ plan-set-compute-pipeline-spec =
     list-rooms-requires
     commands-only-requires
     compute-asks-requires
+    broken-limits-requires
     judge-requires
     spot-of-requires
     inner-bind-requires
-    compute-next-requires
+    with-location-requires
+    inner-immediates-requires
     returns)

@@ -23,6 +23,9 @@ query-rooms-requires c κs = search needs
 one-and-requires : tie.Need-one-and-requires
 one-and-requires c κs = search needs
 
+broken-limits-requires : tie.Need-broken-limits-requires
+broken-limits-requires c κs = search needs
+
 judge-requires : tie.Need-judge-requires
 judge-requires c κs = search needs
 
@@ -38,17 +41,14 @@ spot-of-requires-3 c κs = search needs
 range-of-requires : tie.Need-range-of-requires
 range-of-requires c κs = search needs
 
-with-progress-requires : tie.Need-with-progress-requires
-with-progress-requires c κs = search needs
-
 returns : tie.Need-returns
 returns c =
     let a = c .before .before .before .before .before .before .before .before .before .before .before .before .before .before .before .args in
-    let v = rw (c .before .before .before .before .before .before .before .before .query-rooms .ensures, c .before .before .before .before .before .before .before .one-and .ensures, c .before .before .before .before .before .before .before .before .before .before .before .query-count .ensures, c .before .before .before .before .before .before .before .before .before .run-asks .ensures, c .before .before .before .before .before .before .before .before .before .before .in-open .ensures, c .before .before .before .before .before .before .before .before .before .before .before .before .over-run .ensures) at (c .before .before .before .before .before .before .judge .ensures) in
-    let place = rw (v .1) at (c .before .before .before .before .before .spot-of .ensures) in
-    let puts = rw (v .1, c .before .before .before .before .before .before .before .before .before .before .before .query-count .ensures) at (c .before .before .before .before .spot-of2 .ensures) in
-    let from = rw (v .1) at (c .before .before .before .spot-of3 .ensures .0) in
-    right (a .set .now) (a .count) (a .target) (a .start) (a .end) (a .room) (a .queries-room) (a .s) (a .dst) (a .offset) _ _ (v .0) (c .with-progress .ensures) (v .2) place puts from (c .before .before .range-of .ensures) refl refl refl
+    let v = rw (c .before .before .before .before .before .before .before .before .query-rooms .ensures, c .before .before .before .before .before .before .broken-limits .ensures, c .before .before .before .before .before .before .before .one-and .ensures, c .before .before .before .before .before .before .before .before .before .before .before .query-count .ensures, c .before .before .before .before .before .before .before .before .before .run-asks .ensures, c .before .before .before .before .before .before .before .before .before .before .in-open .ensures, c .before .before .before .before .before .before .before .before .before .before .before .before .over-run .ensures) at (c .before .before .before .before .before .judge .ensures) in
+    let place = rw (v .1) at (c .before .before .before .before .spot-of .ensures) in
+    let puts = rw (v .1, c .before .before .before .before .before .before .before .before .before .before .before .query-count .ensures) at (c .before .before .before .spot-of2 .ensures) in
+    let from = rw (v .1) at (c .before .before .spot-of3 .ensures .0) in
+    right (a .set .now) (a .count) (a .target) (a .start) (a .end) (a .room) (a .queries-room) (a .s) (a .dst) (a .offset) _ (v .0) (v .2) place puts from (c .before .range-of .ensures) refl refl refl
 
 pub plan-copy-query-results-spec : {M : Type 1} → statement M
 plan-copy-query-results-spec =
@@ -60,10 +60,10 @@ plan-copy-query-results-spec =
     run-asks-requires
     query-rooms-requires
     one-and-requires
+    broken-limits-requires
     judge-requires
     spot-of-requires
     spot-of-requires-2
     spot-of-requires-3
     range-of-requires
-    with-progress-requires
     returns)

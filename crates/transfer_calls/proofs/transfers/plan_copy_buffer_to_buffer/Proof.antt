@@ -35,14 +35,14 @@ list-rooms-requires c κs = search needs
 commands-only-requires : tie.Need-commands-only-requires
 commands-only-requires c κs = search needs
 
+broken-limits-requires : tie.Need-broken-limits-requires
+broken-limits-requires c κs = search needs
+
 judge-requires : tie.Need-judge-requires
 judge-requires c κs = search needs
 
 spot-of-requires : tie.Need-spot-of-requires
 spot-of-requires c κs = search needs
-
-with-progress-requires : tie.Need-with-progress-requires
-with-progress-requires c κs = search needs
 
 returns : tie.Need-returns
 unfolding outcomeOf
@@ -53,9 +53,9 @@ returns c =
     let cs = map (copyCommand (a .src) (a .dst)) (regionsOf l) in
     let asks : Conditions =
     record { phase = not (inOpen (s .progress .phase)); many = false; range = some? emptyCopy (regionsOf l); absent = false; kind = false; sum = false; room = overRunBy 3 l } in
-    let k = found (a .room) s asks (s .progress .phase) cs _ _ _ _ (c .before .before .before .before .before .list-rooms .ensures) (c .before .before .before .before .before .before .before .before .before .region-count .ensures ∙ sym (length-map (regionsOf l) (copyCommand (a .src) (a .dst)))) (c .before .before .before .before .commands-only .ensures)
-    (rw (c .before .before .before .before .before .before .run-asks .ensures, c .before .before .before .before .before .before .before .in-open .ensures, c .before .before .before .before .before .before .before .before .over-run .ensures, c .before .before .before .before .before .before .before .before .before .before .empty-region .ensures) at (c .before .before .before .judge .ensures)) (c .before .before .spot-of .ensures) in (
-      (k .said, same (a .room) s asks (s .progress .phase) cs k _ (c .with-progress .ensures)),
+    let k = found (a .room) s asks (s .progress .phase) cs _ _ _ _ _ (c .before .before .before .before .before .list-rooms .ensures) (c .before .before .before .broken-limits .ensures) (c .before .before .before .before .before .before .before .before .before .region-count .ensures ∙ sym (length-map (regionsOf l) (copyCommand (a .src) (a .dst)))) (c .before .before .before .before .commands-only .ensures)
+    (rw (c .before .before .before .before .before .before .run-asks .ensures, c .before .before .before .before .before .before .before .in-open .ensures, c .before .before .before .before .before .before .before .before .over-run .ensures, c .before .before .before .before .before .before .before .before .before .before .empty-region .ensures) at (c .before .before .judge .ensures)) (c .before .spot-of .ensures) in (
+      (k .said, same (a .room) s asks (s .progress .phase) cs k _ refl),
       laid (a .room) s asks (s .progress .phase) cs _ _ _ (k .here) (k .many) (λ h i l. refl),
       λ i h. some-written (a .room) s asks (s .progress .phase) cs k i h .1,
     )
@@ -71,7 +71,7 @@ plan-copy-buffer-to-buffer-spec =
     run-asks-requires
     list-rooms-requires
     commands-only-requires
+    broken-limits-requires
     judge-requires
     spot-of-requires
-    with-progress-requires
     returns)

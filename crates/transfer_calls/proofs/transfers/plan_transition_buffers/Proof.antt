@@ -1,7 +1,7 @@
 -- `transfer_calls::transfers::plan_transition_buffers` meets its contract. Assumes nothing.
 use borrow.Author.Needs.{needs}
 use mathlib.Core.Bool.{false, not, cond, _&&_}
-use mathlib.Core.Path.{_∙_, ap}
+use mathlib.Core.Path.{refl, _∙_, ap}
 use Rattle.records.specs.Check.{some?}
 use Rattle.records.specs.declared.command.Command.the-variants.{BufferBarrier}
 use Rattle.records.specs.declared.outcome.Conditions.{Conditions}
@@ -38,14 +38,14 @@ list-rooms-requires c κs = search needs
 commands-only-requires : tie.Need-commands-only-requires
 commands-only-requires c κs = search needs
 
+broken-limits-requires : tie.Need-broken-limits-requires
+broken-limits-requires c κs = search needs
+
 judge-requires : tie.Need-judge-requires
 judge-requires c κs = search needs
 
 spot-of-requires : tie.Need-spot-of-requires
 spot-of-requires c κs = search needs
-
-with-progress-requires : tie.Need-with-progress-requires
-with-progress-requires c κs = search needs
 
 returns : tie.Need-returns
 unfolding outcomeOf
@@ -58,9 +58,9 @@ returns c =
     let cs = onBoard (a .caps) bs in
     let asks : Conditions =
     record { phase = not (inOpen (s .progress .phase)); many = false; range = false; absent = t && some? barrierAbsent (bufferBarriers l); kind = false; sum = false; room = overRunBy 3 l } in
-    let k = found (a .room) s asks (s .progress .phase) cs _ _ _ _ (c .before .before .before .before .before .list-rooms .ensures) (c .before .before .before .before .before .before .before .before .before .on-board .ensures ∙ ap (λ (n : _). cond t n 0) (c .before .before .before .before .before .before .before .before .before .before .barrier-count .ensures) ∙ board-long t bs) (c .before .before .before .before .commands-only .ensures)
-    (rw (c .before .before .before .before .before .before .barrier-asks .ensures, c .before .before .before .before .before .before .before .in-open .ensures, c .before .before .before .before .before .before .before .before .over-run .ensures, c .before .before .before .before .before .before .before .before .before .before .before .barrier-absent .ensures) at (c .before .before .before .judge .ensures)) (c .before .before .spot-of .ensures) in (
-      (k .said, same (a .room) s asks (s .progress .phase) cs k _ (c .with-progress .ensures)),
+    let k = found (a .room) s asks (s .progress .phase) cs _ _ _ _ _ (c .before .before .before .before .before .list-rooms .ensures) (c .before .before .before .broken-limits .ensures) (c .before .before .before .before .before .before .before .before .before .on-board .ensures ∙ ap (λ (n : _). cond t n 0) (c .before .before .before .before .before .before .before .before .before .before .barrier-count .ensures) ∙ board-long t bs) (c .before .before .before .before .commands-only .ensures)
+    (rw (c .before .before .before .before .before .before .barrier-asks .ensures, c .before .before .before .before .before .before .before .in-open .ensures, c .before .before .before .before .before .before .before .before .over-run .ensures, c .before .before .before .before .before .before .before .before .before .before .before .barrier-absent .ensures) at (c .before .before .judge .ensures)) (c .before .spot-of .ensures) in (
+      (k .said, same (a .room) s asks (s .progress .phase) cs k _ refl),
       laid (a .room) s asks (s .progress .phase) cs _ _ _ (k .here) (k .many) (λ h i l. board-at t bs i _ l .1),
       λ i h. board-at t bs i (BufferBarrier 0 0) (some-written (a .room) s asks (s .progress .phase) cs k i h .1) .0,
     )
@@ -77,7 +77,7 @@ plan-transition-buffers-spec =
     barrier-asks-requires
     list-rooms-requires
     commands-only-requires
+    broken-limits-requires
     judge-requires
     spot-of-requires
-    with-progress-requires
     returns)
