@@ -45,7 +45,7 @@ pub fn draw_by_value(
         first_instance,
         instance_count,
     );
-    let answer = draw_answer(plan);
+    let answer = draw_answer(plan, s);
     let next = keep_drawn(list, plan);
     Kept { list: next, answer }
 }
@@ -79,7 +79,7 @@ pub fn begin_render_pass_by_value(
         d,
     );
     write_render_label(bytes, label, plan);
-    let answer = render_answer(plan);
+    let answer = render_answer(plan, s);
     let next = keep_render(list, plan);
     Kept { list: next, answer }
 }
@@ -94,7 +94,7 @@ pub fn end_render_pass_by_value(
 {
     let part = within(room, MAX_COMMANDS);
     let plan = plan_end_render_pass(part, caps, s);
-    let answer = end_answer(plan);
+    let answer = end_answer(plan, s);
     let next = keep_ended(list, plan);
     Kept { list: next, answer }
 }
@@ -110,7 +110,7 @@ pub fn set_render_pipeline_by_value(
 {
     let part = within(room, MAX_COMMANDS);
     let plan = plan_set_render_pipeline(part, caps, s, p);
-    let answer = piped_answer(plan);
+    let answer = piped_answer(plan, s);
     let next = keep_piped(list, plan);
     Kept { list: next, answer }
 }

@@ -3,7 +3,7 @@ use mathlib.Core.Path.{refl}
 use lib.ListN.{length, getD}
 use borrow.Author.Needs.{needs}
 use Rattle.calls.specs.Call.{begin-render-pass}
-use Rattle.pass_calls.specs.BegunRender.{renderAt}
+use Rattle.pass_calls.specs.BegunRender.{renderAt, renderNext}
 use Rattle.pass_calls.specs.Marked.{labelOf}
 use Rattle.pass_calls.proofs.Labels.{label-fits}
 use Rattle.one_pass.proofs.BegunKept.{begun-keeps, begun-kept}
@@ -39,7 +39,7 @@ returns c =
     let plan = c .before .before .before .before .before .before .plan-begin-render in
     let p = plan .result in
     begun-kept (a .caps) (a .s) (begin-render-pass (a .d) (labelOf (a .has-label) (a .label .now) (a .label-count)) (record { run = a .set .now; count = a .set-count })) (λ x. refl) refl
-    (a .room) _ (a .list) _ (st .good .0 .1 .0 .1) (c .before .before .before .before .before .before .before .within .ensures) (a .bytes .now) _ _ (p .outcome) (p .next) (p .batch .at) (p .batch .n) (renderAt (p .batch)) (p .put) (p .size) (λ i. getD (a .label .now) i 0)
+    (a .room) _ (a .list) _ (st .good .0 .1 .0 .1) (c .before .before .before .before .before .before .before .within .ensures) (a .bytes .now) _ _ (p .outcome) (renderNext p (a .s)) (p .batch .at) (p .batch .n) (renderAt (p .batch)) (p .put) (p .size) (λ i. getD (a .label .now) i 0)
     (plan .ensures .0 (a .label .now) refl) (c .before .render-answer .ensures) (c .keep-render .ensures) (c .before .before .before .before .write-render-label .ensures)
 
 pub begin-render-pass-by-value-spec : {M : Type 1} → statement M
