@@ -23,11 +23,11 @@ use crate::run::told;
 use flat::cursor::Cursor;
 use flat::cursor::is_right;
 use play::line::play;
-use play::print::flush;
-use play::print::put;
-use play::print::put_answers;
-use play::print::put_error;
-use play::print::put_state;
+use played::print::flush;
+use played::print::put;
+use played::print::put_answers;
+use played::print::put_error;
+use played::print::put_state;
 use records::check::within;
 use records::state::State;
 

@@ -3,9 +3,9 @@
 ghost use Prim.Native.Nat.{_≤_};
 ghost use lib.ListN.{length};
 use play::line::play;
-use play::played::Played;
-use play::print::Output;
-use play::print::flush;
+use played::Played;
+use played::print::Output;
+use played::print::flush;
 use records::check::within;
 use records::limits::MAX_COMMANDS;
 use records::pipeline::PrivateCapabilities;
