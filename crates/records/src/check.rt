@@ -2,7 +2,7 @@
 // through from its counted end to its beginning.
 ghost use mathlib.Core.Path.{_≡_};
 ghost use mathlib.Core.Bool.{_||_};
-ghost use Prim.Native.Nat.{min};
+ghost use Prim.Native.Nat.{_≤_, min};
 ghost use lib.ListN.{take};
 ghost use Rattle.records.specs.Check.{some?, badMask, tooMany as tooManyOf, badAttribute, badDescriptor, badResolve, badUnits, badMasks, overRoom, brokenLimits};
 ghost use Rattle.records.specs.Scan.{scanStart, scanOne, scanned};
@@ -128,11 +128,28 @@ pub fn bad_descriptors(descs: [ImmediateDesc; MAX_IMMEDIATES_COMMANDS], count: u
     bad
 }
 
+// Of up to eight descriptors. The compiler counts the eight places out, and copies no array.
+fn bad_few(immediates: ImmediateState) -> bool
+    ensures { λ r. ⌜ (immediates .count ≤ 8 → r ≡ some? badDescriptor (take (immediates .count) (immediates .descs))) ⌝ }
+{
+    let mut left: usize = 8;
+    let mut bad = false;
+    while 0 < left {
+        left = left - 1;
+        let d = immediates.descs[left];
+        bad = ((left < immediates.count) & bad_descriptor(d)) | bad;
+    }
+    bad
+}
+
 fn bad_immediates(immediates: ImmediateState) -> bool
     ensures { λ r. ⌜ r ≡ some? badDescriptor (take (immediates .count) (immediates .descs)) ⌝ }
 {
     if immediates.count == 0 {
         return false;
+    }
+    if immediates.count <= 8 {
+        return bad_few(immediates);
     }
     let descs = immediates.descs;
     bad_descriptors(descs, immediates.count)
