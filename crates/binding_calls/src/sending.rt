@@ -9,9 +9,9 @@ ghost use Rattle.calls.specs.Did.{recordOf};
 ghost use Rattle.calls.specs.Step.{setImmediates};
 ghost use Rattle.binding_calls.specs.ImmediatePlans.{WorkedOf, SendAllowed, sentAt, BytesFit, bytesSent, ImmediateOf, immediateAnswer};
 use bindings::immediate_command::Placed;
-use bindings::immediate_command::immediate_byte_at;
 use bindings::immediate_command::immediate_command_at;
 use bindings::immediate_command::place_descriptors;
+use bindings::immediates::byte_at;
 use bindings::immediates::immediates_after;
 use bindings::immediates::out_of_range;
 use calls::judge::Counts;
@@ -125,7 +125,8 @@ pub fn record_immediates(list: &mut [Record], plan: ImmediatePlan)
     fill_sent(list, at, n, batch);
 }
 
-// The bytes of the plan. The words are not read: the plan has them.
+// The bytes of the plan, one pass over its descriptors: i bytes are written, the next one is byte k
+// of descriptor j. `words` are not read: the plan has them.
 pub fn write_bytes(bytes: &mut [u8], words: &[u32], plan: ImmediatePlan)
     requires { ⌜ BytesFit plan (length (now bytes)) ⌝ }
     ensures { λ _. ⌜ now (bytes .exit) ≡ bytesSent plan (now (bytes .entry)) ⌝ }
@@ -134,10 +135,22 @@ pub fn write_bytes(bytes: &mut [u8], words: &[u32], plan: ImmediatePlan)
     let state = batch.state;
     let at = batch.put;
     let n = batch.size;
+    let descs = state.descs;
+    let sent = state.words;
     let mut i: usize = 0;
+    let mut j: usize = 0;
+    let mut k: u32 = 0;
     while i < n {
-        bytes[at + i] = immediate_byte_at(state, i as u32);
-        i += 1;
+        let d = descs[j];
+        if k < d.size_bytes {
+            let word = ((d.offset / 4) as usize) + ((k / 4) as usize);
+            bytes[at + i] = byte_at(sent[word], k % 4);
+            i += 1;
+            k += 1;
+        } else {
+            j += 1;
+            k = 0;
+        }
     }
 }
 

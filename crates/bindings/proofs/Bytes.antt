@@ -1,18 +1,16 @@
 -- The descriptors of immediates one by one: their places and their bytes. Assumes nothing.
--- `place-step`: a descriptor more is placed. `byte-here`, `byte-past`: a byte of the descriptor, and one of those after it.
-use Prim.Native.Nat.{ℕ, zero, suc, _+_, _-_, _*_, _/_, _%_, _≤_, _<_, min}
+-- `place-step`: a descriptor more is placed. `byte-here`: a byte of a descriptor. `bytes-past`: the bytes past a descriptor's are those of the descriptors behind it.
+use Prim.Native.Nat.{ℕ, zero, suc, _+_, _*_, _/_, _%_, _<_, min}
 use mathlib.Core.Bool.{false}
 use mathlib.Core.List.{List, [], _∷_, _++_}
-use mathlib.Core.Path.{_≡_, refl, sym, ap, ap₂, _∙_, subst}
+use mathlib.Core.Path.{_≡_, refl, sym, ap, ap₂, _∙_}
 use native.Mathlib.Nat.{not-suc-le-zero}
 use native.Mathlib.Omega.{arith}
-use lib.ListN.{length, getD, take, drop, set, length-take}
-use lib.Seq.{getD-take, getD-drop, drop-cons, take-suc, take-suc-set}
+use lib.ListN.{length, getD, take, drop, set, length-take, List·getD-append}
+use lib.Seq.{getD-take, getD-drop, drop-cons, drop-at, take-suc, take-suc-set}
 use Rattle.records.specs.Check.{some?, badDescriptor}
 use Rattle.records.specs.Start.{startImmediate}
 use Rattle.records.specs.declared.command.ImmediateDesc.{ImmediateDesc}
-use Rattle.slots.specs.Place.{Stands}
-use Rattle.slots.proofs.Parts.{stands-left, stands-right}
 use Rattle.bindings.specs.Immediates.{littleEndian, bytesOf, wordsOf, immediateBytes}
 use Rattle.bindings.specs.Placed.{placesOf, sizeOf, places-more, size-more, Good, good-cons, good-at, bytes-long, words-all}
 
@@ -68,24 +66,13 @@ module _ (ws : List ℕ) (e : length ws ≡ 64) (d : ImmediateDesc) (g : Good d)
   size : length (bytesOf (wordsOf ws d)) ≡ d .«size_bytes»
   size = bytes-long (wordsOf ws d) ∙ words-all ws d e g
 
-  byte-of : (j : ℕ) → j < d .«size_bytes» → Stands (byteOf ws d j) j (bytesOf (wordsOf ws d))
-  byte-of j h k b =
+  byte-of : (k : ℕ) → k < d .«size_bytes» → getD (bytesOf (wordsOf ws d)) k 0 ≡ byteOf ws d k
+  byte-of k h =
       let w = g .whole in
-      let l : j / 4 < d .«size_bytes» / 4 = omega arith in
-      sym (byte-place (wordsOf ws d) j b (omega (arith, words-all ws d e g))
-      ∙ ap (λ (x : ℕ). getD (littleEndian x) (j % 4) 0)
-      (getD-take (d .«size_bytes» / 4) (drop (d .offset / 4) ws) (j / 4) 0 l ∙ getD-drop (d .offset / 4) ws (j / 4) 0))
-
-  byte-first : (ds : List ImmediateDesc) (j : ℕ) → j < d .«size_bytes» → Stands (byteOf ws d j) j (immediateBytes ws (d ∷ ds))
-  unfolding immediateBytes
-  byte-first ds j h = stands-left (byteOf ws d j) j (bytesOf (wordsOf ws d)) (immediateBytes ws ds) (omega (arith, size)) (byte-of j h)
-
-  byte-later : (ds : List ImmediateDesc) (j c : ℕ) → d .«size_bytes» ≤ j → Stands c (j - d .«size_bytes») (immediateBytes ws ds)
-      → Stands c j (immediateBytes ws (d ∷ ds))
-  unfolding immediateBytes
-  byte-later ds j c h s =
-      stands-right c j (bytesOf (wordsOf ws d)) (immediateBytes ws ds) (omega (arith, size))
-      (subst (λ (n : ℕ). Stands c (j - n) (immediateBytes ws ds)) (sym size) s)
+      let l : k / 4 < d .«size_bytes» / 4 = omega arith in
+      byte-place (wordsOf ws d) k 0 (omega (arith, words-all ws d e g))
+      ∙ ap (λ (x : ℕ). getD (littleEndian x) (k % 4) 0)
+      (getD-take (d .«size_bytes» / 4) (drop (d .offset / 4) ws) (k / 4) 0 l ∙ getD-drop (d .offset / 4) ws (k / 4) 0)
 
 -- ---- the descriptors from place j on
 module _ (ws : List ℕ) (w : length ws ≡ 64) (l : List ImmediateDesc) (count : ℕ) (e : length l ≡ 192) (j : ℕ) (h : j < min count 192)
@@ -99,16 +86,23 @@ module _ (ws : List ℕ) (w : length ws ≡ 64) (l : List ImmediateDesc) (count 
   goods : Good this × (some? badDescriptor behind ≡ false)
   goods = good-cons this behind (ap (some? badDescriptor) (sym (counted-next l count e j h)) ∙ g)
 
+  pub good-here : Good this
+  good-here = goods .0
+
   pub good-behind : some? badDescriptor behind ≡ false
   good-behind = goods .1
 
-  pub byte-here : (k : ℕ) → k < this .«size_bytes» → Stands (byteOf ws this k) k (immediateBytes ws (drop j (take count l)))
-  byte-here k m =
-      subst (λ (ds : List ImmediateDesc). Stands (byteOf ws this k) k (immediateBytes ws ds)) (sym (counted-next l count e j h))
-      (byte-first ws w this (goods .0) behind k m)
+  bytes-next : immediateBytes ws (drop j (take count l)) ≡ bytesOf (wordsOf ws this) ++ immediateBytes ws behind
+  unfolding immediateBytes
+  bytes-next = ap (immediateBytes ws) (counted-next l count e j h)
 
-  pub byte-past : (k c : ℕ) → this .«size_bytes» ≤ k → Stands c (k - this .«size_bytes») (immediateBytes ws behind)
-      → Stands c k (immediateBytes ws (drop j (take count l)))
-  byte-past k c m s =
-      subst (λ (ds : List ImmediateDesc). Stands c k (immediateBytes ws ds)) (sym (counted-next l count e j h))
-      (byte-later ws w this (goods .0) behind k c m s)
+  pub byte-here : (k : ℕ) → k < this .«size_bytes» → getD (immediateBytes ws (drop j (take count l))) k 0 ≡ byteOf ws this k
+  byte-here k m =
+      ap (λ (bs : List ℕ). getD bs k 0) bytes-next
+      ∙ List·getD-append (bytesOf (wordsOf ws this)) (immediateBytes ws behind) 0 k (omega (arith, size ws w this good-here))
+      ∙ byte-of ws w this good-here k m
+
+  pub bytes-past : drop (this .«size_bytes») (immediateBytes ws (drop j (take count l))) ≡ immediateBytes ws behind
+  bytes-past =
+      ap (drop (this .«size_bytes»)) bytes-next
+      ∙ drop-at (bytesOf (wordsOf ws this)) (immediateBytes ws behind) (this .«size_bytes») (size ws w this good-here)

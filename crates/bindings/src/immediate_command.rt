@@ -1,18 +1,16 @@
-// The commands of `set_immediates` and their marker bytes by place. The contracts cite
-// specs/Immediates.antt.
-ghost use Prim.Native.Nat.{ℕ, _+_, _*_, _/_, _%_, _≤_, min};
+// The commands of `set_immediates` by place, and the places of their marker bytes. The contracts
+// cite specs/Immediates.antt.
+ghost use Prim.Native.Nat.{ℕ, _*_, _≤_, min};
 ghost use mathlib.Core.Bool.{false};
 ghost use mathlib.Core.List.{List};
 ghost use mathlib.Core.Path.{_≡_};
-ghost use lib.ListN.{length, take, getD};
+ghost use lib.ListN.{length, take};
 ghost use Rattle.records.specs.Check.{some?, badDescriptor};
 ghost use Rattle.slots.specs.Place.{Stands};
-ghost use Rattle.bindings.specs.Immediates.{descriptorsOf, littleEndian, immediateCommands, immediateBytes};
+ghost use Rattle.bindings.specs.Immediates.{descriptorsOf, immediateCommands, immediateBytes};
 ghost use Rattle.bindings.specs.Placed.{placesOf};
-use crate::immediates::byte_at;
 use records::check::within;
 use records::command::Command;
-use records::command::ImmediateDesc;
 use records::limits::MAX_IMMEDIATES_COMMANDS;
 use records::state::ImmediateState;
 
@@ -70,36 +68,4 @@ pub fn immediate_command_at(i: ImmediateState, placed: Placed, k: u32) -> Comman
     } else {
         Command::PopDebugGroup
     }
-}
-
-// Byte number j of a descriptor's words.
-fn descriptor_byte(i: ImmediateState, d: ImmediateDesc, j: u32) -> u8
-    ensures { λ r. ⌜ r ≡ getD (littleEndian (getD (i .words) (d .offset / 4 + j / 4) 0)) (j % 4) 0 ⌝ }
-{
-    let at = ((d.offset / 4) as usize) + ((j / 4) as usize);
-    if at < 64 {
-        let words = i.words;
-        byte_at(words[at], j % 4)
-    } else {
-        byte_at(0, j % 4)
-    }
-}
-
-// Byte number k of those that the call appends, where the words are already written.
-pub fn immediate_byte_at(i: ImmediateState, k: u32) -> u8
-    ensures { λ r. ⌜ (some? badDescriptor (descriptorsOf i) ≡ false → Stands r k (immediateBytes (i .words) (descriptorsOf i))) ⌝ }
-{
-    let n = within(i.count, MAX_IMMEDIATES_COMMANDS);
-    let mut left = k;
-    let mut j: usize = 0;
-    let descs = i.descs;
-    while j < n {
-        let d = descs[j];
-        if left < d.size_bytes {
-            return descriptor_byte(i, d, left);
-        }
-        left = left - d.size_bytes;
-        j = j + 1;
-    }
-    0
 }
