@@ -1,6 +1,6 @@
 // What a call answers, and the conditions of document 01's 'Turned away'.
 ghost use mathlib.Core.Path.{_≡_};
-ghost use Rattle.records.specs.Outcome.{noneHold, either as eitherOf, smallest};
+ghost use Rattle.records.specs.Outcome.{number, noneHold, either as eitherOf, smallest};
 
 pub enum Outcome {
     // Carried through.
@@ -19,6 +19,22 @@ pub enum Outcome {
     Overflow,
     // 7: no room in the list, the bytes or the queries.
     NoRoom,
+}
+
+// Document 01's number: 0 where the call is carried through, or the refusal's.
+pub fn number_of(outcome: Outcome) -> u8
+    ensures { λ r. ⌜ r ≡ number outcome ⌝ }
+{
+    match outcome {
+        Outcome::Done => 0,
+        Outcome::WrongPhase => 1,
+        Outcome::TooMany => 2,
+        Outcome::OutOfRange => 3,
+        Outcome::Absent => 4,
+        Outcome::WrongKind => 5,
+        Outcome::Overflow => 6,
+        Outcome::NoRoom => 7,
+    }
 }
 
 // Which of the seven conditions hold.

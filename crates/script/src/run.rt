@@ -12,6 +12,7 @@ use played::print::put_divider;
 use played::print::put_queries;
 use records::check::within;
 use records::outcome::Outcome;
+use records::outcome::number_of;
 use records::state::Phase;
 use records::state::Progress;
 use records::state::State;
@@ -50,20 +51,6 @@ pub fn first_tally(input: Input, used: usize) -> Tally {
         done: 0,
         right: true,
         wrong,
-    }
-}
-
-// Document 01's number: 0, or the refusal's.
-fn number_of(outcome: Outcome) -> u8 {
-    match outcome {
-        Outcome::Done => 0,
-        Outcome::WrongPhase => 1,
-        Outcome::TooMany => 2,
-        Outcome::OutOfRange => 3,
-        Outcome::Absent => 4,
-        Outcome::WrongKind => 5,
-        Outcome::Overflow => 6,
-        Outcome::NoRoom => 7,
     }
 }
 
