@@ -83,15 +83,15 @@ seen c =
     }
 
 -- a row whose last call is carried through, and one whose last call is turned away
-abbrev records : PrivateCapabilities → List Call → Call → List Command → Case
+abbrev pub records : PrivateCapabilities → List Call → Call → List Command → Case
 records b before last cs = record { board = b; before = before; last = last; answer = 0; commands = cs }
 
-abbrev refused : ℕ → PrivateCapabilities → List Call → Call → Case
+abbrev pub refused : ℕ → PrivateCapabilities → List Call → Call → Case
 refused n b before last = record { board = b; before = before; last = last; answer = n; commands = [] }
 
 -- ---- what the rows begin with
 -- a pass with that pipeline, and buffer 7 at offset 16 in slot 0
-abbrev with : RenderPipeline → List Call
+abbrev pub with : RenderPipeline → List Call
 with p = barePass ∷ set-render-pipeline p ∷ set-vertex-buffer 0 7 16 ∷ []
 
 -- slot 0 with stride 65,536; slot 0 alone, and slots 0 and 1, by vertex
@@ -118,13 +118,13 @@ abbrev immediate : RenderPipeline
 immediate = pipelineOf (innerOf 1 [] (last-word ∷ [])) [] [] stencil.None Ccw
 
 -- with depth, targets that differ, and a bias; with equal targets and another bias; with neither
-abbrev masked : ℕ → ColorTargetDesc
+abbrev pub masked : ℕ → ColorTargetDesc
 masked m = record { mask = m; blend = noBlend }
 
 abbrev biased : ℕ → DepthBiasState
 biased slope = record { constant = pos 5; «slope_scale» = slope; clamp = 0 }
 
-abbrev differing : RenderPipeline
+abbrev pub differing : RenderPipeline
 differing = fixedOf (biased 1) (masked 15 ∷ masked 7 ∷ [])
 
 abbrev equal : RenderPipeline
@@ -137,23 +137,23 @@ neither = fixedOf (record { constant = pos 0; «slope_scale» = 0; clamp = 0 }) 
 abbrev uint : TextureView
 uint = viewed (Texture 3 3553) 1 kind.Uint false
 
-abbrev float : TextureView
+abbrev pub float : TextureView
 float = viewed (Texture 1 3553) 1 kind.Float false
 
 abbrev default : TextureView
 default = viewed DefaultRenderbuffer 1 kind.Float true
 
-abbrev external : TextureView
+abbrev pub external : TextureView
 external = viewed (ExternalNativeFramebuffer 6) 1 kind.Float false
 
-abbrev depth-stencil : TextureView
+abbrev pub depth-stencil : TextureView
 depth-stencil = viewed (Texture 2 3553) 6 kind.Depth false
 
 -- clear colours, by the bits of their floats
-abbrev colour : ℕ → ℕ → ℕ → ℕ → ColorF64
+abbrev pub colour : ℕ → ℕ → ℕ → ℕ → ColorF64
 colour r g b a = record { r = ofBits binary64 r; g = ofBits binary64 g; b = ofBits binary64 b; a = ofBits binary64 a }
 
-abbrev black : ColorF64
+abbrev pub black : ColorF64
 black = colour 0 0 0 0
 
 -- the default renderbuffer at place 1; at place 0, all places cleared, resolved and discarded
@@ -167,7 +167,7 @@ at-place-0 =
     (record { view = depth-stencil; «depth_ops» = 18; «stencil_ops» = 18; «clear_depth» = ofBits binary32 0x3f80_0000; «clear_stencil» = 3 }))
 
 -- scissor and viewport of a pass of 4 by 3
-abbrev extents : List Command
+abbrev pub extents : List Command
 extents = SetScissor (rect (pos 0) (pos 0) (pos 4) (pos 3)) ∷ SetViewport (rect (pos 0) (pos 0) (pos 4) (pos 3)) fullDepth ∷ []
 
 abbrev sized : ℤ → List Command

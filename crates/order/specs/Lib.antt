@@ -24,4 +24,6 @@ pub mod Theorem
 pub mod Ran
 pub mod Samples
 pub mod Cases
+pub mod EdgeSamples
+pub mod Edges
 pub mod Witness
