@@ -1,7 +1,7 @@
 #!/bin/bash
 # Runs every case, compares with its '#=' lines, keeps the whole output in cases/*.out.
 cd "$(dirname "$0")/.." || exit 2
-O=${ORACLE:-target/debug/oracle}; bad=0; n=0; T=$(mktemp -d)
+O=${ORACLE:-${CARGO_TARGET_DIR:-target}/debug/oracle}; bad=0; n=0; T=$(mktemp -d)
 for f in cases/*.txt; do
   n=$((n+1)); out="${f%.txt}.out"
   if ! $O run "$f" > "$out"; then echo "FAIL $f (run)"; bad=$((bad+1)); continue; fi

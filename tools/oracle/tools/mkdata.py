@@ -3,7 +3,7 @@
 Rust records for them. Everything comes from seeds and from the scripts at hand, so two runs are equal."""
 import glob, os, re, subprocess, sys
 ROOT = os.path.dirname(os.path.dirname(os.path.abspath(__file__)))
-O = os.path.join(ROOT, "target/debug/oracle")
+O = os.path.join(os.environ.get("CARGO_TARGET_DIR", os.path.join(ROOT, "target")), "debug/oracle")
 DATA = os.path.join(ROOT, "data")
 CALLS = 60          # calls of a random session
 SKIP = {"T7_draw_at_4096", "B30"}           # large; data/scripts/full_*.txt have the same edges in less

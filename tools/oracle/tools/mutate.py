@@ -26,7 +26,7 @@ M = [('M0 none', '', ''),
 for n, a, b in M:
     assert a == '' or src.count(a) == 1, n
     open(W + '/upstream/command.rs', 'w').write(src.replace(a, b) if a else src)
-    r = subprocess.run(['cargo', 'build'], cwd=W, capture_output=True, text=True)
+    r = subprocess.run(['cargo', 'build', '--target-dir', 'target'], cwd=W, capture_output=True, text=True)
     assert r.returncode == 0, r.stderr[-600:]
     o = W + '/target/debug/oracle'
     fz = subprocess.run([o, 'fuzz', '0', '300'], capture_output=True, text=True).stdout.strip().split('\n')[-1]
