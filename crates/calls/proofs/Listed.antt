@@ -1,15 +1,15 @@
 -- From a plan that is right and written to the contract of a call, by the runs that it is handed. Assumes nothing.
 use Prim.Native.Nat.{ℕ, zero, suc, _+_, _<_, _≤_}
 use mathlib.Core.Bool.{Bool, true, false, cond}
-use mathlib.Core.List.{List, [], _∷_, _++_, map, append-assoc, append-nil}
+use mathlib.Core.List.{List, [], _∷_, _++_, map, append-assoc}
 use mathlib.Core.Path.{_≡_, refl, sym, ap, _∙_, subst}
 use native.Mathlib.Nat.{le-of-suc-le-suc, add-zero}
 use native.Mathlib.Omega.{arith}
 use lib.ListN.{length, getD, take, drop, length-map, take-append-drop}
 use Rattle.walks.specs.Fill.{filled, firsts}
 use Rattle.walks.proofs.Filled.{filled-is}
-use Rattle.records.specs.Outcome.{accepted, either, smallest}
-use Rattle.records.specs.Check.{stateConditions}
+use Rattle.records.specs.Outcome.{accepted, number, Smallest}
+use Rattle.records.specs.Least.{smallest-is}
 use Rattle.records.specs.declared.check.Rooms.{Rooms}
 use Rattle.records.specs.declared.command.Command.{Command}
 use Rattle.records.specs.declared.command.Command.the-variants.{PopDebugGroup}
@@ -23,7 +23,7 @@ use Rattle.calls.specs.Did.{Did, Runs, roomsOf, Lists, Marks, Resolves, 
 use Rattle.calls.specs.Judge.{taken}
 use Rattle.calls.specs.Meaning.{Meaning}
 use Rattle.calls.specs.Planned.{listRooms, byteRooms, queryRooms, noRooms, Put, Laid, Answered, outcomeIn, stateIn}
-use Rattle.calls.specs.Step.{meaning, outcomeOf, callConditions, step}
+use Rattle.calls.specs.Step.{meaning, conditionsOf, outcomeOf}
 
 module _ {X Y : Type 0} (w : Y → X) where
   one-more : (ys : List Y) (n : ℕ) (d : Y) → n < length ys → take (suc n) ys ≡ take n ys ++ (getD ys n d ∷ [])
@@ -95,6 +95,11 @@ module _ (caps : PrivateCapabilities) (s : State) (c : Call) where
   unfolding outcomeOf
   same-outcome rooms rooms′ e = rw e
 
+  -- the outcome's number is the smallest whose condition holds
+  least : (rooms : Rooms) (o : Outcome) → o ≡ outcomeOf rooms s m → Smallest (conditionsOf rooms s m) (number o)
+  unfolding outcomeOf
+  least rooms o e = subst (λ (x : Outcome). Smallest (conditionsOf rooms s m) (number x)) (sym e) (smallest-is (conditionsOf rooms s m))
+
   -- the contract, from the answer and the three runs
   did : (runs runs′ : Runs) (a : Answer) (rooms : Rooms) (outcome : Outcome) (next : State) → m .handed rooms ≡ m .handed (roomsOf runs) → Answered s (outcomeOf rooms s m) (stateIn m) outcome next
       → a ≡ record { outcome = outcome; state = next }
@@ -106,8 +111,10 @@ module _ (caps : PrivateCapabilities) (s : State) (c : Call) where
       let lists = cs ∙ ap (λ (o : Outcome). written (runs .commands) (s .progress .commands) (map recordOf (taken o (m .commands) []))) same in
       let marks = bs ∙ ap (λ (o : Outcome). written (runs .bytes) (s .progress .bytes) (taken o (m .bytes) [])) same in
       let asks = qs ∙ ap (λ (o : Outcome). written (runs .queries) (s .progress .queries) (taken o (m .queries) [])) same in
+      let told : a .outcome ≡ outcomeOf (roomsOf runs) s m = ap (λ (x : Answer). x .outcome) e ∙ ans .0 ∙ same in
       record {
-        outcome = ap (λ (x : Answer). x .outcome) e ∙ ans .0 ∙ same;
+        smallest = least (roomsOf runs) (a .outcome) told;
+        outcome = told;
         state = ap (λ (x : Answer). x .state) e ∙ ans .1 ∙ ap (λ (o : Outcome). taken o (stateIn m) s) same;
         runs = λ i. record { commands = lists i; bytes = marks i; queries = asks i };
       }

@@ -3,6 +3,7 @@ use Prim.Native.Nat.{ℕ, _+_}
 use mathlib.Core.Path.{_≡_}
 use mathlib.Core.List.{List, _++_, map}
 use lib.ListN.{length, take, drop}
+use Rattle.records.specs.Outcome.{number, Smallest}
 use Rattle.records.specs.declared.check.Rooms.{Rooms}
 use Rattle.records.specs.declared.command.Command.{Command}
 use Rattle.records.specs.declared.command.Record.{Record}
@@ -10,7 +11,7 @@ use Rattle.records.specs.declared.pipeline.PrivateCapabilities.{PrivateCapabili
 use Rattle.records.specs.declared.state.Answer.{Answer}
 use Rattle.records.specs.declared.state.State.{State}
 use Rattle.calls.specs.Call.{Call}
-use Rattle.calls.specs.Step.{Step, step}
+use Rattle.calls.specs.Step.{meaning, conditionsOf, Step, step}
 
 -- the three lent runs: commands, marker bytes, queries
 pub record Runs : Type 0 where
@@ -39,6 +40,8 @@ runsAfter s t r =
 
 -- the call did what `step` says, with the runs that it was lent
 pub record Did (caps : PrivateCapabilities) (s : State) (r : Runs) (c : Call) (a : Answer) (r′ : Runs) : Type 0 where
+  -- document 01's number: the smallest whose condition holds, 0 where none does
+  pub smallest : Smallest (conditionsOf (roomsOf r) s (meaning caps s c)) (number (a .outcome))
   pub outcome : a .outcome ≡ step caps (roomsOf r) s c .outcome
   pub state : a .state ≡ step caps (roomsOf r) s c .state
   pub runs : r′ ≡ runsAfter s (step caps (roomsOf r) s c) r

@@ -7,8 +7,7 @@ ghost use mathlib.Core.List.{map};
 ghost use lib.ListN.{getD, take, length};
 ghost use Rattle.mask.specs.Mask.{testBit};
 ghost use Rattle.records.specs.Start.{startAttribute};
-ghost use Rattle.records.specs.Check.{some?, badAttribute};
-ghost use Rattle.records.specs.Scan.{scanOne, scanned};
+ghost use Rattle.records.specs.Check.{some?};
 ghost use Rattle.records.specs.declared.command.AttributeDesc.{AttributeDesc};
 ghost use Rattle.records.specs.declared.command.Command.the-variants.{SetVertexAttribute};
 ghost use Rattle.records.specs.declared.command.OptionU32.the-variants.{None};
@@ -18,7 +17,7 @@ ghost use Rattle.pipeline.specs.Vertex.{described, descOr, unsetAttribut
 use crate::desc::desc_in;
 use crate::desc::desc_or;
 use crate::vertex::described_slots;
-use records::check::AttributeScan;
+use records::check::scan_attributes;
 use records::check::within;
 use records::command::AttributeDesc;
 use records::command::Command;
@@ -108,44 +107,6 @@ pub fn vertex_too_many(p: RenderPipeline) -> bool
 {
     (MAX_VERTEX_BUFFERS < p.vertex_buffer_count)
         | (MAX_VERTEX_ATTRIBUTES < p.vertex_attribute_count)
-}
-
-fn bad_attribute(a: AttributeDesc) -> bool
-    ensures { λ r. ⌜ r ≡ badAttribute a ⌝ }
-{
-    (16 <= a.location) | (16 <= a.buffer_index)
-}
-
-fn scan_attribute(s: AttributeScan, a: AttributeDesc) -> AttributeScan
-    ensures { λ r. ⌜ r ≡ scanOne s a ⌝ }
-{
-    let low = a.location < 16;
-    let again = mask::test(s.seen, a.location);
-    AttributeScan {
-        seen: mask::set_if(s.seen, a.location, low),
-        bad: bad_attribute(a) | s.bad,
-        twice: (low & again) | s.twice,
-    }
-}
-
-fn scan_attributes(
-    attributes: [AttributeDesc; MAX_VERTEX_ATTRIBUTES],
-    count: usize,
-) -> AttributeScan
-    ensures { λ r. ⌜ r ≡ scanned (take count attributes) ⌝ }
-{
-    let mut left = within(count, MAX_VERTEX_ATTRIBUTES);
-    let mut scan = AttributeScan {
-        seen: 0,
-        bad: false,
-        twice: false,
-    };
-    while 0 < left {
-        left = left - 1;
-        let a = attributes[left];
-        scan = scan_attribute(scan, a);
-    }
-    scan
 }
 
 // Condition 3: a location or a slot of 16 or more.

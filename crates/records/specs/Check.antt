@@ -84,10 +84,10 @@ unfoldable pub among : ℕ → List ℕ → Bool
 among x [] = false
 among x (y ∷ ys) = eqb x y || among x ys
 
--- 5: a location, which is a number from 0 to 15, stands twice
+-- 5: a number stands twice
 unfoldable pub twice : List ℕ → Bool
 twice [] = false
-twice (x ∷ xs) = (ltb x 16 && among x xs) || twice xs
+twice (x ∷ xs) = among x xs || twice xs
 
 abbrev pub locations : List AttributeDesc → List ℕ
 locations l = map (λ (a : AttributeDesc). a .location) l

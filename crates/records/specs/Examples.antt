@@ -1,6 +1,7 @@
 -- Document 01's 'Turned away' at handed-in states on either side of a limit, by computation. Assumes nothing.
 use Prim.Native.Nat.{ℕ}
 use mathlib.Core.Path.{_≡_, refl}
+use mathlib.Core.Bool.{true, false}
 use mathlib.Core.List.{List, [], _∷_, map}
 use Rattle.mask.specs.Mask.{testBit}
 use Rattle.records.specs.declared.command.AttributeDesc.{AttributeDesc}
@@ -79,6 +80,15 @@ twice-past-the-count = refl
 pub location-16 : answer (vertices 0 16 (upTo14 16)) 4096 ≡ OutOfRange
 unfolding smallest some? badUnits among twice testBit
 location-16 = refl
+
+-- out of range, and 3 comes before 5
+pub location-20-twice : answer (vertices 0 2 (20 ∷ 20 ∷ [])) 4096 ≡ OutOfRange
+unfolding smallest some? badUnits among twice testBit
+location-20-twice = refl
+
+pub twice-20 : (twice (20 ∷ 3 ∷ 20 ∷ []) ≡ true) × (twice (20 ∷ 36 ∷ 4 ∷ []) ≡ false)
+unfolding among twice
+twice-20 = (refl, refl)
 
 pub slot-16-dirty : answer (vertices 65536 0 (upTo14 15)) 4096 ≡ OutOfRange
 unfolding smallest some? badUnits among twice testBit

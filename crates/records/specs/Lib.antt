@@ -1,4 +1,5 @@
 pub mod Outcome
+pub mod Least
 pub mod Start
 pub mod Check
 pub mod Same

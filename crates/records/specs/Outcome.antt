@@ -1,6 +1,9 @@
 -- Document 01, 'Turned away': the number of each answer, and "the smallest number whose condition holds". Definitions only.
-use Prim.Native.Nat.{ℕ}
-use mathlib.Core.Bool.{Bool, true, false, cond, _||_}
+use Prim.Native.Nat.{ℕ, _<_}
+use mathlib.Core.Path.{_≡_}
+use mathlib.Core.Bool.{Bool, true, false, cond, _&&_, _||_}
+use mathlib.Core.Logic.{_⊎_}
+use lib.Dec.{eqb}
 use Rattle.records.specs.declared.outcome.Outcome.{Outcome}
 use Rattle.records.specs.declared.outcome.Outcome.the-variants.{Done, WrongPhase, TooMany, OutOfRange, Absent, WrongKind, Overflow, NoRoom}
 use Rattle.records.specs.declared.outcome.Conditions.{Conditions}
@@ -41,6 +44,21 @@ either a b =
       sum = a .sum || b .sum;
       room = a .room || b .room;
     }
+
+-- condition n of document 01's table holds
+abbrev pub holds : Conditions → ℕ → Bool
+holds c n =
+    (eqb n 1 && c .phase)
+    || ((eqb n 2 && c .many)
+    || ((eqb n 3 && c .range)
+    || ((eqb n 4 && c .absent)
+    || ((eqb n 5 && c .kind)
+    || ((eqb n 6 && c .sum)
+    || (eqb n 7 && c .room))))))
+
+-- n is "the smallest number whose condition holds", or none holds and n is 0
+abbrev pub Smallest : Conditions → ℕ → Type 0
+Smallest c n = ((holds c n ≡ true) × ((k : ℕ) → k < n → holds c k ≡ false)) ⊎ ((n ≡ 0) × ((k : ℕ) → holds c k ≡ false))
 
 -- the answer with the smallest number whose condition holds
 unfoldable pub smallest : Conditions → Outcome

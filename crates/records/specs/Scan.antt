@@ -1,13 +1,14 @@
--- The attributes gone through from the last to the first, with the locations seen so far as a mask. Assumes nothing.
+-- The attributes gone through from the last to the first, with the locations below 16 seen so far as a mask. Assumes nothing.
 -- `scanned-bad`, `scanned-twice`: what it finds is what `Check` asks of the attributes.
-use Prim.Native.Nat.{ℕ, suc, _<_}
-use mathlib.Core.Path.{_≡_, refl, sym, ap, ap₂, _∙_}
+-- `seen-before`: of a location below 16 the mask says whether it stands among those gone through.
+use Prim.Native.Nat.{ℕ, _<_}
+use mathlib.Core.Path.{_≡_, refl, sym, ap, _∙_}
 use mathlib.Core.Bool.{Bool, true, false, _&&_, _||_}
 use mathlib.Core.List.{List, [], _∷_}
 use native.Mathlib.Decide.{ℕ-discrete}
 use native.Mathlib.Omega.{arith}
 use lib.Dec.{ltb, eqb}
-use borrow.Author.Tests.{ne-eqb, ltb-true, eqb-true as eqb-is}
+use borrow.Author.Tests.{ne-eqb, lt-ltb, ltb-true, eqb-true as eqb-is}
 use Rattle.mask.specs.Mask.{testBit, setBitIf}
 use Rattle.mask.specs.Laws.{test-zero}
 use Rattle.mask.specs.By.{test-set-if}
@@ -19,18 +20,18 @@ use Rattle.records.specs.Check.{badAttribute, some?, among, twice, locat
 abbrev pub scanStart : AttributeScan
 scanStart = record { seen = 0; bad = false; twice = false }
 
--- one attribute more, before those that were seen
-unfoldable pub scanOne : AttributeScan → AttributeDesc → AttributeScan
-scanOne s a =
+-- one attribute more, before those that were seen, and whether its location stands among them
+unfoldable pub scanOne : AttributeScan → AttributeDesc → Bool → AttributeScan
+scanOne s a again =
     record {
       seen = setBitIf (ltb (a .location) 16) (s .seen) (a .location);
       bad = badAttribute a || s .bad;
-      twice = (ltb (a .location) 16 && testBit (s .seen) (a .location)) || s .twice;
+      twice = again || s .twice;
     }
 
 unfoldable pub scanned : List AttributeDesc → AttributeScan
 scanned [] = scanStart
-scanned (a ∷ l) = scanOne (scanned l) a
+scanned (a ∷ l) = scanOne (scanned l) a (among (a .location) (locations l))
 
 pub scanned-bad : (l : List AttributeDesc) → scanned l .bad ≡ some? badAttribute l
 unfolding scanned scanOne some?
@@ -94,11 +95,7 @@ scanned-seen (a ∷ l) x = at (ltb (a .location) 16) refl (scanned-seen l x)
 pub scanned-twice : (l : List AttributeDesc) → scanned l .twice ≡ twice (locations l)
 unfolding scanned scanOne twice
 scanned-twice [] = refl
-scanned-twice (a ∷ l) =
-    ap₂ (λ (p q : Bool). p || q)
-    (ap (λ (b : Bool). ltb (a .location) 16 && b) (scanned-seen l (a .location)) ∙ absorb (ltb (a .location) 16) (among (a .location) (locations l)))
-    (scanned-twice l)
-  where
-    absorb : (p q : Bool) → p && (p && q) ≡ p && q
-    absorb true q = refl
-    absorb false q = refl
+scanned-twice (a ∷ l) = ap (λ (b : Bool). among (a .location) (locations l) || b) (scanned-twice l)
+
+pub seen-before : (l : List AttributeDesc) (x : ℕ) → x < 16 → testBit (scanned l .seen) x ≡ among x (locations l)
+seen-before l x h = scanned-seen l x ∙ ap (λ (b : Bool). b && among x (locations l)) (lt-ltb x 16 h)

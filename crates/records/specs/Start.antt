@@ -4,6 +4,7 @@ use mathlib.Core.List.{List}
 use lib.ListN.{replicate}
 use lib.IntN.{pos}
 use Rattle.names.specs.Start.{startPrimitiveState, startStencilState}
+use Rattle.records.specs.declared.command.Extent3d.{Extent3d}
 use Rattle.records.specs.declared.command.OptionU32.the-variants.{None}
 use Rattle.records.specs.declared.command.OptionBlend.the-variants.{None as noBlend}
 use Rattle.records.specs.declared.command.VertexAttribKind.the-variants.{Float}
@@ -107,10 +108,14 @@ startView =
 abbrev pub startResolve : ResolveDesc
 startResolve = record { place = 0; dst = startView }
 
+-- wgpu-types' default of `Extent3d`; WebGPU's GPUExtent3DDict has it for height and depth
+abbrev pub startExtent : Extent3d
+startExtent = record { width = 1; height = 1; «depth_or_array_layers» = 1 }
+
 abbrev pub startPass : PassState
 startPass =
     record {
-      «render_size» = record { width = 0; height = 0; «depth_or_array_layers» = 0 };
+      «render_size» = startExtent;
       resolves = replicate 8 startResolve;
       «resolve_count» = 0;
       «invalidate_attachments» = 0;

@@ -1,10 +1,9 @@
 // The check of a handed-in state: which of document 01's conditions hold of it. Each list is gone
-// through from its counted end to its beginning.
+// through from its counted end to its beginning, but for the search of one location.
 ghost use mathlib.Core.Path.{_≡_};
-ghost use mathlib.Core.Bool.{_||_};
 ghost use Prim.Native.Nat.{_≤_, min};
-ghost use lib.ListN.{take};
-ghost use Rattle.records.specs.Check.{some?, badMask, tooMany as tooManyOf, badAttribute, badDescriptor, badResolve, badUnits, badMasks, overRoom, brokenLimits};
+ghost use lib.ListN.{take, drop};
+ghost use Rattle.records.specs.Check.{some?, among, locations, badMask, tooMany as tooManyOf, badAttribute, badDescriptor, badResolve, badUnits, badMasks, overRoom, brokenLimits};
 ghost use Rattle.records.specs.Scan.{scanStart, scanOne, scanned};
 use crate::command::AttributeDesc;
 use crate::command::ImmediateDesc;
@@ -68,19 +67,42 @@ impl AttributeScan {
     }
 }
 
-fn scan_attribute(s: AttributeScan, a: AttributeDesc) -> AttributeScan
-    ensures { λ r. ⌜ r ≡ scanOne s a ⌝ }
+// One attribute more. `again` says that its location stands among those gone through.
+fn scan_attribute(s: AttributeScan, a: AttributeDesc, again: bool) -> AttributeScan
+    ensures { λ r. ⌜ r ≡ scanOne s a again ⌝ }
 {
     let low = a.location < 16;
-    let again = mask::test(s.seen, a.location);
     AttributeScan {
         seen: mask::set_if(s.seen, a.location, low),
         bad: bad_attribute(a) | s.bad,
-        twice: (low & again) | s.twice,
+        twice: again | s.twice,
     }
 }
 
-fn scan_attributes(
+// Whether a counted attribute from `from` on has the location.
+fn stands_later(
+    attributes: [AttributeDesc; MAX_VERTEX_ATTRIBUTES],
+    from: usize,
+    count: usize,
+    location: u32,
+) -> bool
+    ensures { λ r. ⌜ r ≡ among location (locations (drop from (take count attributes))) ⌝ }
+{
+    let end = within(count, MAX_VERTEX_ATTRIBUTES);
+    let mut i = from;
+    while i < end {
+        let a = attributes[i];
+        if location == a.location {
+            return true;
+        }
+        i = i + 1;
+    }
+    false
+}
+
+// What is found of the counted attributes. The mask has the locations below 16; one that is out of
+// range is looked for.
+pub fn scan_attributes(
     attributes: [AttributeDesc; MAX_VERTEX_ATTRIBUTES],
     count: usize,
 ) -> AttributeScan
@@ -89,9 +111,15 @@ fn scan_attributes(
     let mut left = within(count, MAX_VERTEX_ATTRIBUTES);
     let mut scan = AttributeScan::new();
     while 0 < left {
+        let behind = left;
         left = left - 1;
         let a = attributes[left];
-        scan = scan_attribute(scan, a);
+        let again = if a.location < 16 {
+            mask::test(scan.seen, a.location)
+        } else {
+            stands_later(attributes, behind, count, a.location)
+        };
+        scan = scan_attribute(scan, a, again);
     }
     scan
 }

@@ -1,7 +1,7 @@
 // The commands of the list: `Command` of gles/mod.rs without texture copies and debug markers other
 // than pass labels. Names and field order are the Rust's. No case holds an array.
 ghost use mathlib.Core.Path.{_≡_};
-ghost use Rattle.records.specs.Start.{startAttribute, startDepthBias, startTarget};
+ghost use Rattle.records.specs.Start.{startAttribute, startDepthBias, startExtent, startTarget};
 use names::gl::BlendDesc;
 use names::gl::PrimitiveState;
 use names::gl::StencilOps;
@@ -32,6 +32,21 @@ pub struct Extent3d {
     pub width: u32,
     pub height: u32,
     pub depth_or_array_layers: u32,
+}
+
+impl Extent3d {
+    // One texel each way.
+    pub const SIDE: u32 = 1;
+
+    pub fn new() -> Self
+        ensures { λ r. ⌜ r ≡ startExtent ⌝ }
+    {
+        Extent3d {
+            width: Extent3d::SIDE,
+            height: Extent3d::SIDE,
+            depth_or_array_layers: Extent3d::SIDE,
+        }
+    }
 }
 
 pub struct RectI32 {

@@ -236,11 +236,7 @@ impl PassState {
     pub fn new() -> Self
         ensures { λ r. ⌜ r ≡ startPass ⌝ }
     {
-        let render_size = Extent3d {
-            width: 0,
-            height: 0,
-            depth_or_array_layers: 0,
-        };
+        let render_size = Extent3d::new();
         let resolve = ResolveDesc::new();
         PassState {
             render_size,

@@ -8,7 +8,7 @@ use lib.IntN.{pos, negsuc}
 use lib.ListN.{replicate, set}
 use Rattle.mask.specs.Mask.{testBit}
 use Rattle.names.specs.Start.{startPrimitiveState, startStencilState}
-use Rattle.records.specs.Start.{startState, startAttribute, startSlot, startTarget, startTextureSlot, startView, startResolve, startProgress, startImmediate, startImmediates}
+use Rattle.records.specs.Start.{startState, startAttribute, startExtent, startSlot, startTarget, startTextureSlot, startView, startResolve, startProgress, startImmediate, startImmediates}
 use Rattle.records.specs.declared.command.OptionU32.the-variants.{None, Some}
 use Rattle.records.specs.declared.command.OptionBlend.the-variants.{Some as someBlend}
 use Rattle.records.specs.declared.command.VertexAttribKind.the-variants.{Integer}
@@ -28,7 +28,7 @@ start-text :
     ++ ascii "state stencil back 519 255 255 0 7680 7680 7680\n"
     ++ ascii "state bias 0 00000000 00000000\n"
     ++ ascii "state alpha_to_coverage 0\n"
-    ++ ascii "state render_size 0 0 0\n"
+    ++ ascii "state render_size 1 1 1\n"
     ++ ascii "state has_pass_label 0\n"
     ++ ascii "state instance_mask 0 dirty_mask 0 active_first_instance 0\n"
     ++ ascii "state first_instance_location -\n"
@@ -169,7 +169,7 @@ some =
           };
       pass =
           record {
-            «render_size» = record { width = 0; height = 0; «depth_or_array_layers» = 0 };
+            «render_size» = startExtent;
             resolves = set (replicate 8 startResolve) 0 (record { place = 7; dst = startView });
             «resolve_count» = 1;
             «invalidate_attachments» = 772;

@@ -4,9 +4,6 @@ use Rattle.records.specs.Scan.{scanOne}
 use Rattle.records.proofs.check.scan_attribute.Statement.{statement}
 use Rattle.records.proofs.check.scan_attribute.Tie as tie
 
-test-requires : tie.Need-test-requires
-test-requires c κs = search needs
-
 set-if-requires : tie.Need-set-if-requires
 set-if-requires c κs = search needs
 
@@ -15,13 +12,8 @@ bad-attribute-requires c κs = search needs
 
 returns : tie.Need-returns
 unfolding scanOne
-returns c =
-    simp (
-      c .before .before .bad-attribute .ensures,
-      c .before .before .before .set-if .ensures,
-      c .before .before .before .before .test .ensures,
-    )
+returns c = simp (c .before .before .bad-attribute .ensures, c .before .before .before .set-if .ensures)
 
 pub scan-attribute-spec : {M : Type 1} → statement M
 scan-attribute-spec =
-    tie.close (tie.spec test-requires set-if-requires bad-attribute-requires returns)
+    tie.close (tie.spec set-if-requires bad-attribute-requires returns)

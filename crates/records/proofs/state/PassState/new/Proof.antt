@@ -6,8 +6,11 @@ use Rattle.records.proofs.state.PassState.new.Tie as tie
 new-requires : tie.Need-new-requires
 new-requires c κs = search needs
 
+new-requires-2 : tie.Need-new-requires-2
+new-requires-2 c κs = search needs
+
 returns : tie.Need-returns
-returns c = simp (c .new .ensures)
+returns c = simp (c .new2 .ensures, c .before .new .ensures)
 
 pub new-spec : {M : Type 1} → statement M
-new-spec = tie.close (tie.spec new-requires returns)
+new-spec = tie.close (tie.spec new-requires new-requires-2 returns)
