@@ -1,4 +1,4 @@
--- The verdict on a call whose counts are known only where no other condition turns it away. Assumes nothing.
+-- The verdict on a call whose counts are known only where no other condition turns it away, and condition 6 only where 3 does not hold of the state. Assumes nothing.
 use mathlib.Core.Bool.{Bool, true, false, cond, _||_}
 use mathlib.Core.Path.{_≡_, refl, sym, ap, _∙_}
 use Rattle.records.specs.Outcome.{accepted, smallest, either}
@@ -41,7 +41,29 @@ clears false false false false false false true h x k = bad k
 clears false false false false false false false true x k = bad k
 clears false false false false false false false false x k = refl
 
+-- where condition 3 holds, condition 6 does not matter
+hidden : (a b c d e f f′ g : Bool) → c ≡ true → answer a b c d e f g ≡ answer a b c d e f′ g
+hidden true b c d e f f′ g k = refl
+hidden false true c d e f f′ g k = refl
+hidden false false true d e f f′ g k = refl
+hidden false false false d e f f′ g k = bad k
+
+-- a call's conditions with another condition 6
+abbrev pub summed : Bool → Conditions → Conditions
+summed t c = record { phase = c .phase; many = c .many; range = c .range; absent = c .absent; kind = c .kind; sum = t; room = c .room }
+
+or-left : (t u : Bool) → t ≡ true → t || u ≡ true
+or-left true u k = refl
+or-left false u k = bad k
+
 module _ (rooms : Rooms) (s : State) (c : Conditions) (phase : Phase) where
+  pub any-sum : (t : Bool) (more : Counts) → stateConditions s rooms .range ≡ true → judged rooms s (summed t c) phase more ≡ judged rooms s c phase more
+  unfolding smallest
+  any-sum t more k =
+      let h = stateConditions s rooms in
+      hidden (h .phase || c .phase) (h .many || c .many) (h .range || c .range) (h .absent || c .absent) (h .kind || c .kind) (h .sum || t) (h .sum || c .sum)
+      (h .room || (c .room || overRoom (grown (s .progress) phase more) rooms)) (or-left (h .range) (c .range) k)
+
   -- the answer without the counts
   abbrev pub before : Outcome
   before = smallest (either (stateConditions s rooms) c)

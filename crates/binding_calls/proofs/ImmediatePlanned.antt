@@ -1,9 +1,10 @@
 -- The plan of `set_immediates`, as it is worked out, is right. Assumes nothing.
-use Prim.Native.Nat.{ℕ, _*_, _<_, _≤_}
-use mathlib.Core.Bool.{Bool, true, false, cond, not, _||_}
+use Prim.Native.Nat.{ℕ, _+_, _*_, _^_, _<_, _≤_}
+use mathlib.Core.Bool.{Bool, true, false, cond, not, _&&_, _||_}
 use mathlib.Core.List.{List}
-use mathlib.Core.Path.{_≡_, refl, sym, ap, _∙_, subst}
+use mathlib.Core.Path.{_≡_, refl, sym, ap, ap₂, _∙_, subst}
 use native.Mathlib.Omega.{arith}
+use lib.Dec.{ltb, leb}
 use lib.ListN.{length, getD, take}
 use Rattle.records.specs.Outcome.{accepted}
 use Rattle.records.specs.Check.{some?, badAttribute, badUnits, badDescriptor, badResolve, badMasks, attributesOf, resolvesOf, outOfRange, stateConditions}
@@ -15,8 +16,8 @@ use Rattle.records.specs.declared.outcome.Outcome.{Outcome}
 use Rattle.records.specs.declared.state.ImmediateState.{ImmediateState}
 use Rattle.records.specs.declared.state.Progress.{Progress}
 use Rattle.records.specs.declared.state.State.{State}
-use Rattle.bindings.specs.Immediates.{descriptorsOf, immediatesState, immediateCommands, immediateBytes, immediatesOutOfRange}
-use Rattle.bindings.specs.Placed.{placesOf}
+use Rattle.bindings.specs.Immediates.{descriptorsOf, immediatesState, immediateCommands, immediateBytes, immediatesOutOfRange, immediatesOver}
+use Rattle.bindings.specs.Placed.{placesOf, commands-long, over-total}
 use Rattle.pass.specs.Marks.{Lent, counted, overRun}
 use Rattle.calls.specs.declared.judge.Counts.{Counts}
 use Rattle.calls.specs.Judge.{grown, judged, taken}
@@ -24,11 +25,11 @@ use Rattle.calls.specs.Meaning.{Meaning, inPass}
 use Rattle.calls.specs.Parts.{withProgress, withImmediates}
 use Rattle.calls.specs.Planned.{byteRooms}
 use Rattle.calls.specs.Step.{setImmediates, outcomeOf}
-use Rattle.calls.proofs.Judged.{neither, none-holds, within, fitting}
+use Rattle.calls.proofs.Judged.{bad, neither, none-holds, within, fitting}
 use Rattle.calls.proofs.Plans.{put, moved-or-not}
 use Rattle.binding_calls.specs.declared.sending.Worked.{Worked}
 use Rattle.binding_calls.specs.ImmediatePlans.{Right, WorkedOf, ImmediateOf, withWords}
-use Rattle.binding_calls.proofs.ImmediateJudged.{before, clear, Found, found}
+use Rattle.binding_calls.proofs.ImmediateJudged.{summed, any-sum, before, clear, Found, found}
 
 -- what is taken only where a call is carried through, and equal there
 taken-same : {X : Type 0} (t : Bool) (x y z : X) → (t ≡ true → x ≡ y) → cond t x z ≡ cond t y z
@@ -42,6 +43,13 @@ none-below h = absurd (omega arith)
 one-taken : (t : Bool) (n k i : ℕ) → n ≡ cond t k 0 → i < n → (t ≡ true) × (i < k)
 one-taken true n k i e h = (refl, subst (λ (x : ℕ). i < x) e h)
 one-taken false n k i e h = none-below (subst (λ (x : ℕ). i < x) e h)
+
+-- the third of four
+third : (a b c d : Bool) → c ≡ true → a || (b || (c || d)) ≡ true
+third true b c d k = refl
+third false true c d k = refl
+third false false true d k = refl
+third false false false d k = bad k
 
 -- the state with the words that a call leaves
 words-next : (t : Bool) (ws : List ℕ) (s : State) (p : Progress)
@@ -67,7 +75,7 @@ module _ (room bytes : ℕ) (s : State) (offset : ℕ) (ws : Lent) (w : Worked) 
         range = immediatesOutOfRange offset (ws .count);
         absent = false;
         kind = false;
-        sum = false;
+        sum = immediatesOver (descriptorsOf i) (s .progress .bytes);
         room = overRun ws;
       }
 
@@ -102,11 +110,36 @@ module _ (room bytes : ℕ) (s : State) (offset : ℕ) (ws : Lent) (w : Worked) 
   carried : accepted outcome ≡ true → Right (ws .run) (ws .count) i offset (s .progress .bytes) w
   carried h = all-right (clear rooms s asks (s .progress .phase) true-more h)
 
-  -- the verdict as the counts that are worked out have it
+  -- condition 6 as it is worked out, with the same answer
+  abbrev past : Bool
+  past = ltb 0 (w .n) && leb (2 ^ 32) (s .progress .bytes + w .size)
+
+  past-is : some? badDescriptor (descriptorsOf i) ≡ false → past ≡ asks .sum
+  past-is g =
+      ap₂ (λ (n k : ℕ). ltb 0 n && leb (2 ^ 32) (s .progress .bytes + k)) (work .many ∙ commands-long (descriptorsOf i) (s .progress .bytes)) (work .sized g)
+      ∙ sym (over-total (descriptorsOf i) (s .progress .bytes))
+
+  same-judged : judged rooms s (summed past asks) (s .progress .phase) more ≡ judged rooms s asks (s .progress .phase) more
+  same-judged = go (some? badDescriptor (descriptorsOf i)) refl
+    where
+      go : (t : Bool) → some? badDescriptor (descriptorsOf i) ≡ t → judged rooms s (summed past asks) (s .progress .phase) more ≡ judged rooms s asks (s .progress .phase) more
+      go true g =
+          let units : Bool = badUnits (s .bind .sampled) 0 (s .bind .«texture_slots») in
+          let rest : Bool = some? badResolve (resolvesOf s) || badMasks s in
+          any-sum rooms s asks (s .progress .phase) past more (third (some? badAttribute (attributesOf s)) units (some? badDescriptor (descriptorsOf i)) rest g)
+      go false g = ap (λ (t : Bool). judged rooms s (summed t asks) (s .progress .phase) more) (past-is g)
+
+  -- the verdict as the counts and condition 6 that are worked out have it
   pub verdict : {o : Outcome} {ok : Bool} {progress : Progress}
-      → (o ≡ judged rooms s asks (s .progress .phase) more) × (ok ≡ accepted (judged rooms s asks (s .progress .phase) more))
-      × (progress ≡ taken (judged rooms s asks (s .progress .phase) more) (grown (s .progress) (s .progress .phase) more) (s .progress)) → Found rooms s asks (s .progress .phase) true-more o ok progress
-  verdict v = found rooms s asks (s .progress .phase) more true-more known v
+      → (o ≡ judged rooms s (summed past asks) (s .progress .phase) more) × (ok ≡ accepted (judged rooms s (summed past asks) (s .progress .phase) more))
+      × (progress ≡ taken (judged rooms s (summed past asks) (s .progress .phase) more) (grown (s .progress) (s .progress .phase) more) (s .progress))
+      → Found rooms s asks (s .progress .phase) true-more o ok progress
+  verdict v =
+      found rooms s asks (s .progress .phase) more true-more known (
+        v .0 ∙ same-judged,
+        v .1 ∙ ap accepted same-judged,
+        v .2 ∙ ap (λ (x : Outcome). taken x (grown (s .progress) (s .progress .phase) more) (s .progress)) same-judged,
+      )
 
   module _ {o : Outcome} {ok : Bool} {progress : Progress} (k : Found rooms s asks (s .progress .phase) true-more o ok progress) where
     -- the next state

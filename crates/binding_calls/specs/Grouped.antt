@@ -23,14 +23,14 @@ use Rattle.calls.specs.Planned.{Right}
 use Rattle.binding_calls.specs.declared.grouped.Grouped.{Grouped}
 use Rattle.binding_calls.specs.declared.grouped.GroupPlan.{GroupPlan}
 
--- the call's conditions, from what was found of its entries; the last is a count above its run
-abbrev pub groupAsks : Phase → PipelineLayout → ℕ → BindGroup → Sweep → Bool → Conditions
-groupAsks phase l i g found short =
+-- the call's conditions, from what was found of its entries and the count of dynamic offsets; the last is a count above its run
+abbrev pub groupAsks : Phase → PipelineLayout → ℕ → BindGroup → Sweep → ℕ → Bool → Conditions
+groupAsks phase l i g found count short =
     record {
       phase = not (inPass phase);
       many = ltb 8 (l .«group_count») || (some? longGroup (take (l .«group_count») (l .groups)) || ltb 64 (g .«content_count»));
       range = leb (l .«group_count») i || found .range;
-      absent = not (groupAt l i .present) || found .missing;
+      absent = not (groupAt l i .present) || ltb count (found .used);
       kind = found .kind;
       sum = found .over;
       room = short;

@@ -12,7 +12,7 @@ use Rattle.records.specs.declared.state.Answer.{Answer}
 use Rattle.records.specs.declared.state.ImmediateState.{ImmediateState}
 use Rattle.records.specs.declared.state.State.{State}
 use Rattle.bindings.specs.Immediates.{descriptorsOf, immediatesState, immediateCommands, immediateBytes, immediatesOutOfRange}
-use Rattle.bindings.specs.Placed.{placesOf}
+use Rattle.bindings.specs.Placed.{placesOf, sizeOf}
 use Rattle.calls.specs.Meaning.{Meaning}
 use Rattle.calls.specs.Parts.{withImmediates, withProgress}
 use Rattle.calls.specs.Planned.{byteRooms, Put, Laid, Answered, stateIn}
@@ -27,11 +27,13 @@ pub record Right (ws : List ℕ) (count : ℕ) (i : ImmediateState) (offset used
   pub places : take (length (descriptorsOf i)) (w .placed .at) ≡ placesOf (descriptorsOf i) used
   pub size : w .size ≡ length (immediateBytes (immediatesState i offset (take count ws) .words) (descriptorsOf i))
 
--- what a call that writes so many words sends, with so many bytes used before it: right where condition 3 holds neither of the call nor of a descriptor, and the used bytes are within their limit
+-- what a call that writes so many words sends, with so many bytes used before it: right where condition 3 holds neither of the call nor of a descriptor, and the used bytes are within their limit;
+-- of good descriptors the bytes are as many as their sizes say, whatever the call
 pub record WorkedOf (ws : List ℕ) (count : ℕ) (i : ImmediateState) (offset used : ℕ) (w : Worked) : Type 0 where
   pub many : w .n ≡ length (immediateCommands (descriptorsOf i) used)
   pub few : w .n ≤ 192
   pub small : w .size ≤ 192 * 256
+  pub sized : some? badDescriptor (descriptorsOf i) ≡ false → w .size ≡ sizeOf (descriptorsOf i)
   pub right : immediatesOutOfRange offset count ≡ false → some? badDescriptor (descriptorsOf i) ≡ false → used ≤ 65536 → Right ws count i offset used w
 
 -- the commands and the bytes of a batch, and each by its place

@@ -54,23 +54,25 @@ fn taken_bind(ok: bool, new: BindState, old: BindState) -> BindState
     old
 }
 
-// The call's conditions, from what was found of the entries; `short` is a count above its run.
+// The call's conditions, from what was found of the entries and the count of dynamic offsets; `short`
+// is a count above its run.
 fn group_asks(
     phase: Phase,
     layout: PipelineLayout,
     index: u32,
     group: BindGroup,
     sweep: Sweep,
+    count: usize,
     short: bool,
 ) -> Conditions
-    ensures { λ r. ⌜ r ≡ groupAsks phase layout index group sweep short ⌝ }
+    ensures { λ r. ⌜ r ≡ groupAsks phase layout index group sweep count short ⌝ }
 {
     let shape = group_at(layout, index);
     Conditions {
         phase: !in_pass(phase),
         many: group_too_many(layout, group),
         range: (layout.group_count <= (index as usize)) | sweep.range,
-        absent: (!shape.present) | sweep.missing,
+        absent: (!shape.present) | (count < (sweep.used as usize)),
         kind: sweep.kind,
         sum: sweep.over,
         room: short,
@@ -98,7 +100,7 @@ pub fn plan_set_bind_group(
     let units = dirty_units(bind, sweep.textures, sweep.samplers);
     let n = (sweep.count as usize) + sampler_count(units);
     let short = over_run(offsets, count);
-    let c = group_asks(phase, layout, index, group, sweep, short);
+    let c = group_asks(phase, layout, index, group, sweep, count, short);
     let rooms = list_rooms(room);
     let more = commands_only(n);
     let broken = broken_limits(s);

@@ -1,8 +1,9 @@
 // `set_immediates`: the plan, and how its commands and its marker bytes are written. The contracts
 // cite specs/ImmediatePlans.antt.
-ghost use Prim.Native.Nat.{ℕ, _+_, _<_, _≤_};
+ghost use Prim.Native.Nat.{ℕ, _+_, _^_, _<_, _≤_};
 ghost use mathlib.Core.Path.{_≡_};
-ghost use mathlib.Core.Bool.{cond, not, false as no};
+ghost use mathlib.Core.Bool.{cond, not, _&&_, false as no};
+ghost use lib.Dec.{ltb, leb};
 ghost use lib.ListN.{length};
 ghost use Rattle.walks.specs.Fill.{filled};
 ghost use Rattle.calls.specs.Did.{recordOf};
@@ -17,6 +18,7 @@ use bindings::immediates::out_of_range;
 use calls::judge::Counts;
 use calls::judge::byte_rooms;
 use calls::judge::judge;
+use calls::judge::past_u32;
 use calls::judge::spot_of;
 use calls::parts::with_immediates;
 use calls::parts::with_progress;
@@ -172,9 +174,16 @@ fn work_out(words: &[u32], count: usize, i: ImmediateState, offset: u32, used: u
     }
 }
 
-// The phase, words out of range, and a count above its run.
-fn immediate_asks(allowed: bool, range: bool, short: bool) -> Conditions
-    ensures { λ r. ⌜ r ≡ record { phase = not allowed; many = no; range = range; absent = no; kind = no; sum = no; room = short } ⌝ }
+// Whether the last of n descriptors' bytes, `size` in all behind `used` others, end past 32 bits.
+fn ends_past(n: usize, used: usize, size: usize) -> bool
+    ensures { λ r. ⌜ r ≡ ltb 0 n && leb (2 ^ 32) (used + size) ⌝ }
+{
+    (0 < n) & past_u32(used, size)
+}
+
+// The phase, words out of range, bytes that end past 32 bits, and a count above its run.
+fn immediate_asks(allowed: bool, range: bool, past: bool, short: bool) -> Conditions
+    ensures { λ r. ⌜ r ≡ record { phase = not allowed; many = no; range = range; absent = no; kind = no; sum = past; room = short } ⌝ }
 {
     Conditions {
         phase: !allowed,
@@ -182,7 +191,7 @@ fn immediate_asks(allowed: bool, range: bool, short: bool) -> Conditions
         range,
         absent: false,
         kind: false,
-        sum: false,
+        sum: past,
         room: short,
     }
 }
@@ -217,8 +226,9 @@ pub fn plan_set_immediates(
     let old = s.immediates;
     let range = out_of_range(offset, count);
     let short = over_run(words, count);
-    let c = immediate_asks(in_pass(phase), range, short);
     let w = work_out(words, count, old, offset, p.bytes);
+    let past = ends_past(w.n, p.bytes, w.size);
+    let c = immediate_asks(in_pass(phase), range, past, short);
     let state = w.state;
     let placed = w.placed;
     let rooms = byte_rooms(room, bytes_room);

@@ -1,16 +1,14 @@
 -- The entries reached and the dynamic offsets left, one by one. Assumes nothing.
 -- `reached-cut`: the entries reached are the first n of both. `entry-next`, `entry-end`: those from place j on.
--- `left-next`: the offsets that are left after an entry. `left-head`, `left-none`: the first of those that are left.
+-- `left-next`: the offsets that are left after an entry. `left-head`: the first of those that are left.
 use Prim.Native.Nat.{ℕ, zero, suc, _+_, _≤_, _<_, min}
 use mathlib.Core.Bool.{Bool, true, false, cond}
 use mathlib.Core.List.{List, [], _∷_}
 use mathlib.Core.Path.{_≡_, refl, sym, ap, ap₂, _∙_}
 use native.Mathlib.Nat.{not-suc-le-zero, le-of-suc-le-suc}
 use native.Mathlib.Omega.{arith}
-use lib.Dec.{leb, leb·suc-suc}
 use lib.ListN.{length, take, drop, getD, length-take, drop-of-length-le}
-use lib.Seq.{getD-take, drop-nil}
-use borrow.Author.Tests.{le-leb, lt-leb}
+use lib.Seq.{getD-take}
 use Rattle.mask.specs.Mask.{digitOf}
 use Rattle.records.specs.declared.binding.BindGroupLayoutEntry.{BindGroupLayoutEntry}
 use Rattle.records.specs.declared.binding.BindingType.the-variants.{Buffer}
@@ -22,7 +20,7 @@ use Rattle.records.specs.declared.binding.GroupShape.{GroupShape}
 use Rattle.records.specs.declared.binding.PipelineLayout.{PipelineLayout}
 use Rattle.records.specs.declared.binding.RawBinding.the-variants as content
 use lib.IntN.{pos}
-use Rattle.bindings.specs.Group.{Entry, zipped, groupAt, entriesOf, headOr, rest, missing}
+use Rattle.bindings.specs.Group.{Entry, zipped, groupAt, entriesOf, headOr, rest}
 
 -- ---- the entries
 abbrev entry : BindGroupLayoutEntry → Content → Entry
@@ -116,8 +114,3 @@ left-head zero [] = refl
 left-head zero (o ∷ os) = refl
 left-head (suc u) [] = refl
 left-head (suc u) (o ∷ os) = left-head u os
-
-pub left-none : (u : ℕ) (os : List ℕ) → missing (drop u os) ≡ leb (length os) u
-left-none u [] = ap missing (drop-nil u) ∙ sym (le-leb 0 u (omega arith))
-left-none zero (o ∷ os) = sym (lt-leb (suc (length os)) 0 (omega arith))
-left-none (suc u) (o ∷ os) = left-none u os ∙ sym (leb·suc-suc (length os) u)

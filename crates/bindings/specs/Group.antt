@@ -4,9 +4,10 @@ use mathlib.Core.Bool.{Bool, true, false, cond, not, _&&_, _||_}
 use mathlib.Core.List.{List, [], _∷_, _++_}
 use lib.IntN.{ℤ, pos, _+ℤ_}
 use lib.Signed.{ltZ}
-use lib.Dec.{ltb, leb}
+use lib.Dec.{ltb, leb, eqb}
 use lib.ListN.{getD, take, set, length}
-use Rattle.mask.specs.Mask.{setBit}
+use Rattle.mask.specs.Mask.{setBit, digitOf}
+use Rattle.mask.specs.By.{maskBy}
 use Rattle.names.specs.Gl.{UNIFORM-BUFFER, SHADER-STORAGE-BUFFER}
 use Rattle.records.specs.Check.{some?}
 use Rattle.records.specs.declared.command.Command.{Command}
@@ -130,36 +131,41 @@ unfoldable pub groupState : List Entry → BindState → BindState
 groupState [] b = b
 groupState (x ∷ xs) b = groupState xs (entryState (x .layout) (x .raw) b)
 
--- the units whose texture is named, and the samplers that are
-abbrev pub texturesAfter : BindGroupLayoutEntry → RawBinding → ℕ → ℕ
-texturesAfter e (content.Buffer raw offset size) m = m
-texturesAfter e (content.Texture raw target aspects mips) m = setBit m (e .slot)
-texturesAfter e (content.Image binding) m = m
-texturesAfter e (content.Sampler k) m = m
+-- an entry names unit u: it has a texture, and u is its slot; and the same of a sampler's number
+abbrev pub isTexture : RawBinding → Bool
+isTexture (content.Buffer raw offset size) = false
+isTexture (content.Texture raw target aspects mips) = true
+isTexture (content.Image binding) = false
+isTexture (content.Sampler k) = false
 
-unfoldable pub groupTextures : List Entry → ℕ → ℕ
-groupTextures [] m = m
-groupTextures (x ∷ xs) m = groupTextures xs (texturesAfter (x .layout) (x .raw) m)
+abbrev pub isSampler : RawBinding → Bool
+isSampler (content.Buffer raw offset size) = false
+isSampler (content.Texture raw target aspects mips) = false
+isSampler (content.Image binding) = false
+isSampler (content.Sampler k) = true
 
-abbrev pub samplersAfter : BindGroupLayoutEntry → RawBinding → ℕ → ℕ
-samplersAfter e (content.Buffer raw offset size) m = m
-samplersAfter e (content.Texture raw target aspects mips) m = m
-samplersAfter e (content.Image binding) m = m
-samplersAfter e (content.Sampler k) m = setBit m (e .slot)
+abbrev pub namesTexture : ℕ → Entry → Bool
+namesTexture u x = isTexture (x .raw) && eqb (x .layout .slot) u
 
-unfoldable pub groupSamplers : List Entry → ℕ → ℕ
-groupSamplers [] m = m
-groupSamplers (x ∷ xs) m = groupSamplers xs (samplersAfter (x .layout) (x .raw) m)
+abbrev pub namesSampler : ℕ → Entry → Bool
+namesSampler k x = isSampler (x .raw) && eqb (x .layout .slot) k
+
+-- "Texture and sampler slots are 0 to 15": of these sixteen the units, and the sampler numbers, that some entry names
+unfoldable pub texturesNamed : List Entry → ℕ
+texturesNamed xs = maskBy 16 (λ u. some? (namesTexture u) xs)
+
+unfoldable pub samplersNamed : List Entry → ℕ
+samplersNamed xs = maskBy 16 (λ k. some? (namesSampler k) xs)
 
 -- "one `BindSampler` for each unit whose texture or sampler it names, the same as before or not"; "units ascending", after all other binds
 abbrev pub bindGroupCommands : List Entry → List ℕ → BindState → List Command
 bindGroupCommands xs os b =
-    groupCommands xs os ++ samplerCommands (groupState xs b) (dirtyUnits (groupState xs b) (groupTextures xs 0) (groupSamplers xs 0))
+    groupCommands xs os ++ samplerCommands (groupState xs b) (dirtyUnits (groupState xs b) (texturesNamed xs) (samplersNamed xs))
 
 -- ---- the conditions
--- 2: more than 64 entries in a group of the layout
+-- 2: more than 64 entries in a group of the layout; one without a record has none
 abbrev pub longGroup : GroupShape → Bool
-longGroup g = ltb 64 (g .«entry_count»)
+longGroup g = g .present && ltb 64 (g .«entry_count»)
 
 -- 3, of an entry: a binding number of 1,000 or more or past the slot table; a texture's or sampler's slot of 16 or more; a negative offset of a buffer
 abbrev pub contentOutOfRange : ℕ → RawBinding → Bool
@@ -171,14 +177,14 @@ contentOutOfRange slot (content.Sampler k) = leb 16 slot
 abbrev pub entryOutOfRange : Entry → Bool
 entryOutOfRange x = leb 1000 (x .layout .binding) || (leb 256 (x .layout .slot) || contentOutOfRange (x .layout .slot) (x .raw))
 
--- 4: a dynamic offset absent
-abbrev pub missing : List ℕ → Bool
-missing [] = true
-missing (x ∷ xs) = false
+-- how many entries take a dynamic offset
+unfoldable pub offsetsUsed : List Entry → ℕ
+offsetsUsed [] = 0
+offsetsUsed (x ∷ xs) = digitOf (takesOffset (x .layout) (x .raw)) + offsetsUsed xs
 
-unfoldable pub offsetMissing : List Entry → List ℕ → Bool
-offsetMissing [] os = false
-offsetMissing (x ∷ xs) os = (takesOffset (x .layout) (x .raw) && missing os) || offsetMissing xs (offsetsAfter (x .layout) (x .raw) os)
+-- 4: a dynamic offset absent: more entries take one than the call counts
+abbrev pub offsetMissing : List Entry → ℕ → Bool
+offsetMissing xs count = ltb count (offsetsUsed xs)
 
 -- 5: a buffer for a non-buffer entry
 abbrev pub contentWrongKind : BindingType → RawBinding → Bool

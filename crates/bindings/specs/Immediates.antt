@@ -48,3 +48,8 @@ immediateBytes ws (d ∷ ds) = bytesOf (wordsOf ws d) ++ immediateBytes ws ds
 -- 3: a byte offset that is no multiple of 4; first word plus count of words above 64
 abbrev pub immediatesOutOfRange : ℕ → ℕ → Bool
 immediatesOutOfRange offset count = not (eqb (offset % 4) 0) || ltb 64 (offset / 4 + count)
+
+-- 6: the end of a descriptor's marker bytes past 32 bits, where they go from the place at on
+unfoldable pub immediatesOver : List ImmediateDesc → ℕ → Bool
+immediatesOver [] at = false
+immediatesOver (d ∷ ds) at = leb (2 ^ 32) (at + d .«size_bytes») || immediatesOver ds (at + d .«size_bytes»)

@@ -1,20 +1,21 @@
 -- The places in the marker bytes of the descriptors' bytes. Assumes nothing.
 -- `placed-command`: the command at a place. `bytes-size`: the bytes of good descriptors are as many as their sizes say.
-use Prim.Native.Nat.{ℕ, zero, suc, _+_, _*_, _/_, _%_, _≤_, _<_}
-use mathlib.Core.Bool.{Bool, true, false, not, _||_, true≢false}
+-- `over-total`: condition 6 of `set_immediates` looks at the last descriptor's end alone.
+use Prim.Native.Nat.{ℕ, zero, suc, _+_, _*_, _/_, _%_, _^_, _≤_, _<_}
+use mathlib.Core.Bool.{Bool, true, false, not, _&&_, _||_, true≢false}
 use mathlib.Core.List.{List, [], _∷_, _++_}
-use mathlib.Core.Path.{_≡_, refl, ap, _∙_}
+use mathlib.Core.Path.{_≡_, refl, sym, ap, _∙_}
 use native.Mathlib.Nat.{not-suc-le-zero, le-of-suc-le-suc}
 use native.Mathlib.Omega.{arith}
-use lib.Dec.{ltb, eqb}
+use lib.Dec.{ltb, leb, eqb}
 use lib.ListN.{length, getD, drop, length-take, length-drop, length-append}
-use borrow.Author.Tests.{ltb-false, eqb-true}
+use borrow.Author.Tests.{ltb-false, leb-true, lt-ltb, le-leb, eqb-true}
 use Rattle.records.specs.Check.{some?, badDescriptor}
 use Rattle.records.specs.declared.command.Command.{Command}
 use Rattle.records.specs.declared.command.Command.the-variants.{SetImmediates}
 use Rattle.records.specs.declared.command.ImmediateDesc.{ImmediateDesc}
-use Rattle.bindings.specs.Or.{neither}
-use Rattle.bindings.specs.Immediates.{bytesOf, wordsOf, immediateCommands, immediateBytes}
+use Rattle.bindings.specs.Or.{or-false, neither}
+use Rattle.bindings.specs.Immediates.{bytesOf, wordsOf, immediateCommands, immediateBytes, immediatesOver}
 
 -- the place of each descriptor's bytes, where the first are at `at`
 unfoldable pub placesOf : List ImmediateDesc → ℕ → List ℕ
@@ -51,6 +52,33 @@ pub size-more : (ds : List ImmediateDesc) (d : ImmediateDesc) → sizeOf (ds ++ 
 unfolding sizeOf
 size-more [] d = omega arith
 size-more (e ∷ ds) d = omega (arith, size-more ds d)
+
+-- ---- condition 6
+-- a smaller end past the limit says nothing more
+or-later : (k a b : ℕ) → a ≤ b → leb k a || leb k b ≡ leb k b
+or-later k a b h = go (leb k a) refl
+  where
+    go : (t : Bool) → leb k a ≡ t → t || leb k b ≡ leb k b
+    go true e = let l : k ≤ a = leb-true k a e in sym (le-leb k b (omega arith))
+    go false e = refl
+
+some-there : (n : ℕ) (t : Bool) → ltb 0 (suc n) && t ≡ t
+some-there n t = rw (lt-ltb 0 (suc n) (omega arith))
+
+pub over-total : (ds : List ImmediateDesc) (at : ℕ) → immediatesOver ds at ≡ ltb 0 (length ds) && leb (2 ^ 32) (at + sizeOf ds)
+unfolding immediatesOver sizeOf
+over-total [] at = refl
+over-total (d ∷ []) at =
+    let e : at + d .«size_bytes» ≡ at + (d .«size_bytes» + 0) = omega arith in
+    sym (or-false (leb (2 ^ 32) (at + d .«size_bytes»))) ∙ ap (leb (2 ^ 32)) e
+over-total (d ∷ e ∷ ds) at =
+    let n : ℕ = sizeOf (e ∷ ds) in
+    let next : ℕ = at + d .«size_bytes» in
+    let a : next + n ≡ at + (d .«size_bytes» + n) = omega arith in
+    ap (λ (t : Bool). leb (2 ^ 32) next || t) (over-total (e ∷ ds) next ∙ some-there (length ds) (leb (2 ^ 32) (next + n)))
+    ∙ or-later (2 ^ 32) next (next + n) (omega arith)
+    ∙ ap (leb (2 ^ 32)) a
+    ∙ sym (some-there (suc (length ds)) (leb (2 ^ 32) (at + (d .«size_bytes» + n))))
 
 -- ---- good descriptors
 not-false : (t : Bool) → not t ≡ false → t ≡ true

@@ -8,6 +8,7 @@ use lib.ListN.{replicate}
 use Rattle.tables.specs.Tabulate.{tabulate}
 use Rattle.mask.specs.Mask.{testBit, bitAt, setBit, maskOf, placesFrom}
 use Rattle.mask.specs.By.{maskBy}
+use Rattle.records.specs.Check.{some?}
 use Rattle.records.specs.Start.{startTextureSlot, startRange}
 use Rattle.records.specs.declared.binding.BindingType.{BindingType}
 use Rattle.records.specs.declared.binding.BindingType.the-variants as type
@@ -17,7 +18,7 @@ use Rattle.records.specs.declared.binding.RawBinding.the-variants as content
 use Rattle.records.specs.declared.command.Command.the-variants.{BindBuffer, BindSampler, BindTexture}
 use Rattle.records.specs.declared.command.OptionU32.the-variants.{None, Some}
 use Rattle.records.specs.declared.state.BindState.{BindState}
-use Rattle.bindings.specs.Group.{Entry, groupCommands, groupState, groupTextures, groupSamplers, bindGroupCommands}
+use Rattle.bindings.specs.Group.{Entry, groupCommands, groupState, texturesNamed, samplersNamed, bindGroupCommands}
 use Rattle.bindings.specs.Units.{samplerCommands}
 
 -- units 1 and 3 take sampler 2, which is not set
@@ -35,13 +36,13 @@ entry binding ty slot raw = record { layout = record { binding = binding; ty = t
 
 -- a sampler under number 2 goes to both units
 sampler-bound : bindGroupCommands (entry 0 type.Sampler 2 (content.Sampler 33) ∷ []) [] taking ≡ BindSampler 1 (Some 33) ∷ BindSampler 3 (Some 33) ∷ []
-unfolding groupCommands groupState groupTextures groupSamplers samplerCommands maskBy tabulate maskOf placesFrom testBit setBit bitAt
+unfolding groupCommands groupState texturesNamed samplersNamed some? samplerCommands maskBy tabulate maskOf placesFrom testBit setBit bitAt
 sampler-bound = refl
 
 -- a texture's unit gets its sampler, none here, after all other binds
 texture-bound : bindGroupCommands (entry 0 type.Texture 0 (content.Texture 11 3553 1 startRange) ∷ entry 1 (type.Buffer Uniform true) 4 (content.Buffer 5 (pos 256) (pos 64)) ∷ []) (64 ∷ []) taking
     ≡ BindTexture 0 11 3553 1 startRange ∷ BindBuffer 35345 4 5 (pos 320) (pos 64) ∷ BindSampler 0 None ∷ []
-unfolding groupCommands groupState groupTextures groupSamplers samplerCommands maskBy tabulate maskOf placesFrom testBit setBit bitAt
+unfolding groupCommands groupState texturesNamed samplersNamed some? samplerCommands maskBy tabulate maskOf placesFrom testBit setBit bitAt
 texture-bound = refl
 
 -- the first buffer takes no dynamic offset, the second the first one

@@ -1,8 +1,8 @@
 // What one entry leaves: the state, and the units and samplers that are named. The contracts cite
-// specs/Group.antt.
+// specs/Group.antt and Sweep.antt.
 ghost use mathlib.Core.Path.{_≡_};
-ghost use Rattle.bindings.specs.Group.{entryState, texturesAfter, samplersAfter};
-ghost use Rattle.bindings.specs.Sweep.{textureState, samplerState};
+ghost use Rattle.bindings.specs.Group.{entryState, isTexture, isSampler};
+ghost use Rattle.bindings.specs.Sweep.{textureState, samplerState, namedAfter};
 use records::binding::BindGroupLayoutEntry;
 use records::binding::RawBinding;
 use records::state::BindState;
@@ -55,7 +55,7 @@ pub fn entry_state(entry: BindGroupLayoutEntry, raw: RawBinding, b: BindState) -
 
 // The units whose texture is named.
 pub fn textures_after(entry: BindGroupLayoutEntry, raw: RawBinding, m: u32) -> u32
-    ensures { λ r. ⌜ r ≡ texturesAfter entry raw m ⌝ }
+    ensures { λ r. ⌜ r ≡ namedAfter isTexture entry raw m ⌝ }
 {
     match raw {
         RawBinding::Buffer { raw, offset, size } => m,
@@ -64,7 +64,7 @@ pub fn textures_after(entry: BindGroupLayoutEntry, raw: RawBinding, m: u32) -> u
             target,
             aspects,
             mip_levels,
-        } => mask::set(m, entry.slot),
+        } => mask::set_if(m, entry.slot, entry.slot < 16),
         RawBinding::Image(binding) => m,
         RawBinding::Sampler(k) => m,
     }
@@ -72,7 +72,7 @@ pub fn textures_after(entry: BindGroupLayoutEntry, raw: RawBinding, m: u32) -> u
 
 // The samplers that are named.
 pub fn samplers_after(entry: BindGroupLayoutEntry, raw: RawBinding, m: u32) -> u32
-    ensures { λ r. ⌜ r ≡ samplersAfter entry raw m ⌝ }
+    ensures { λ r. ⌜ r ≡ namedAfter isSampler entry raw m ⌝ }
 {
     match raw {
         RawBinding::Buffer { raw, offset, size } => m,
@@ -83,6 +83,6 @@ pub fn samplers_after(entry: BindGroupLayoutEntry, raw: RawBinding, m: u32) -> u
             mip_levels,
         } => m,
         RawBinding::Image(binding) => m,
-        RawBinding::Sampler(k) => mask::set(m, entry.slot),
+        RawBinding::Sampler(k) => mask::set_if(m, entry.slot, entry.slot < 16),
     }
 }

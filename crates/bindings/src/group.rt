@@ -8,7 +8,7 @@ ghost use lib.ListN.{take, drop};
 ghost use denote.Ref.{now};
 ghost use Rattle.mask.specs.Mask.{digitOf};
 ghost use Rattle.records.specs.Check.{some?};
-ghost use Rattle.bindings.specs.Group.{groupAt, headOr, missing as missingOf, longGroup};
+ghost use Rattle.bindings.specs.Group.{groupAt, headOr, longGroup};
 use records::binding::BindGroup;
 use records::binding::GroupShape;
 use records::binding::PipelineLayout;
@@ -48,7 +48,7 @@ fn long_group(l: PipelineLayout) -> bool
     while 0 < left {
         left = left - 1;
         let shape = groups[left];
-        long = (MAX_BINDINGS < shape.entry_count) | long;
+        long = (shape.present & (MAX_BINDINGS < shape.entry_count)) | long;
     }
     long
 }
@@ -76,13 +76,6 @@ pub fn offset_at(offsets: &[u32], count: usize, used: u32) -> u32
         return offsets[at];
     }
     0
-}
-
-pub fn none_left(offsets: &[u32], count: usize, used: u32) -> bool
-    ensures { λ r. ⌜ r ≡ missingOf (drop used (take count (now (offsets .entry)))) ⌝ }
-{
-    let at = used as usize;
-    within(count, offsets.len()) <= at
 }
 
 // 1 where it is so, else 0.

@@ -5,8 +5,8 @@ ghost use mathlib.Core.Path.{_≡_};
 ghost use lib.ListN.{length, take};
 ghost use denote.Ref.{now};
 ghost use Rattle.records.specs.Check.{some?};
-ghost use Rattle.bindings.specs.Group.{entriesOf, groupCommands, groupState, groupTextures, groupSamplers, entryOutOfRange, offsetMissing, entryWrongKind, groupOver};
-ghost use Rattle.bindings.specs.Sweep.{sweepOne, offsetsUsed};
+ghost use Rattle.bindings.specs.Group.{entriesOf, groupCommands, groupState, texturesNamed, samplersNamed, entryOutOfRange, offsetsUsed, entryWrongKind, groupOver};
+ghost use Rattle.bindings.specs.Sweep.{sweepOne};
 use crate::entry::out_of_range;
 use crate::entry::records_one;
 use crate::entry::takes_offset;
@@ -16,7 +16,6 @@ use crate::entry_state::entry_state;
 use crate::entry_state::samplers_after;
 use crate::entry_state::textures_after;
 use crate::group::group_at;
-use crate::group::none_left;
 use crate::group::offset_at;
 use crate::group::one_if;
 use crate::group::reached;
@@ -28,7 +27,7 @@ use records::binding::RawBinding;
 use records::state::BindState;
 
 // What has been found of the entries gone through: how many commands, how many dynamic offsets are
-// used, the state, the units and samplers named, and conditions 3 to 6.
+// used, the state, the units and samplers named, and conditions 3, 5 and 6.
 pub struct Sweep {
     pub count: u32,
     pub used: u32,
@@ -36,21 +35,14 @@ pub struct Sweep {
     pub textures: u32,
     pub samplers: u32,
     pub range: bool,
-    pub missing: bool,
     pub kind: bool,
     pub over: bool,
 }
 
-// One entry more, where the next dynamic offset is `next`, or there is none.
-fn sweep_entry(
-    entry: BindGroupLayoutEntry,
-    raw: RawBinding,
-    none: bool,
-    next: u32,
-    s: Sweep,
-) -> Sweep
+// One entry more, where the next dynamic offset is `next`, 0 past the last.
+fn sweep_entry(entry: BindGroupLayoutEntry, raw: RawBinding, next: u32, s: Sweep) -> Sweep
     requires { ⌜ (s .count < 64) × (s .used < 64) ⌝ }
-    ensures { λ r. ⌜ r ≡ sweepOne entry raw none next s ⌝ }
+    ensures { λ r. ⌜ r ≡ sweepOne entry raw next s ⌝ }
 {
     let takes = takes_offset(entry, raw);
     let bind = s.bind;
@@ -61,7 +53,6 @@ fn sweep_entry(
         textures: textures_after(entry, raw, s.textures),
         samplers: samplers_after(entry, raw, s.samplers),
         range: s.range | out_of_range(entry, raw),
-        missing: s.missing | (takes & none),
         kind: s.kind | wrong_kind(entry, raw),
         over: s.over | offset_over(entry, raw, next),
     }
@@ -80,10 +71,9 @@ pub fn sweep_entries(
         (r .count ≡ length (groupCommands (entriesOf l i e g) (take count (now (offsets .entry)))))
         × (r .used ≡ offsetsUsed (entriesOf l i e g))
         × (r .bind ≡ groupState (entriesOf l i e g) b)
-        × (r .textures ≡ groupTextures (entriesOf l i e g) 0)
-        × (r .samplers ≡ groupSamplers (entriesOf l i e g) 0)
+        × (r .textures ≡ texturesNamed (entriesOf l i e g))
+        × (r .samplers ≡ samplersNamed (entriesOf l i e g))
         × (r .range ≡ some? entryOutOfRange (entriesOf l i e g))
-        × (r .missing ≡ offsetMissing (entriesOf l i e g) (take count (now (offsets .entry))))
         × (r .kind ≡ some? entryWrongKind (entriesOf l i e g))
         × (r .over ≡ groupOver (entriesOf l i e g) (take count (now (offsets .entry))))
         ⌝ }
@@ -97,7 +87,6 @@ pub fn sweep_entries(
         textures: 0,
         samplers: 0,
         range: false,
-        missing: false,
         kind: false,
         over: false,
     };
@@ -108,9 +97,8 @@ pub fn sweep_entries(
         let entry = entries[j];
         let content = contents[j];
         let raw = content.binding;
-        let none = none_left(offsets, count, sweep.used);
         let next = offset_at(offsets, count, sweep.used);
-        sweep = sweep_entry(entry, raw, none, next, sweep);
+        sweep = sweep_entry(entry, raw, next, sweep);
         j = j + 1;
     }
     sweep

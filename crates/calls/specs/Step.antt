@@ -36,14 +36,14 @@ use Rattle.records.specs.declared.state.State.{State}
 use Rattle.slots.specs.Vertex.{attributesOf}
 use Rattle.slots.specs.Prepare.{working, prepared, preparedOver}
 use Rattle.bindings.specs.Group.{entriesOf, groupAt, groupState, bindGroupCommands, longGroup, entryOutOfRange, offsetMissing, entryWrongKind, groupOver}
-use Rattle.bindings.specs.Immediates.{descriptorsOf, immediatesState, immediateCommands, immediateBytes, immediatesOutOfRange}
+use Rattle.bindings.specs.Immediates.{descriptorsOf, immediatesState, immediateCommands, immediateBytes, immediatesOutOfRange, immediatesOver}
 use Rattle.pipeline.specs.Inner.{innerBind, innerCommands, innerImmediates, innerTooMany, innerOutOfRange}
 use Rattle.pipeline.specs.Vertex.{pipelineVertex, vertexCommands, unsetAttribute, vertexTooMany, vertexOutOfRange, vertexAbsent, vertexTwice}
 use Rattle.pipeline.specs.Fixed.{fixedCommands, pipelineFixed, stencilFuncs, fixedTooMany}
-use Rattle.pass.specs.Marks.{Lent, Label, counted, overRun, labelBytes, pushLabel, popLabel, beginTimestamp, endTimestamp, timestamp, timestampsOut}
+use Rattle.pass.specs.Marks.{Lent, Label, counted, overRun, labelBytes, labelOver, pushLabel, popLabel, beginTimestamp, endTimestamp, timestamp, timestampsOut}
 use Rattle.pass.specs.Render.{beginRenderCommands, beginRenderPass, passWrongKind, endRenderCommands, endRenderPass, beginComputePass, endComputePass}
 use Rattle.calls.specs.Call.{QuerySet, Call, begin-encoding, end-encoding, begin-render-pass, end-render-pass, begin-compute-pass, end-compute-pass, transition-buffers, transition-textures, clear-buffer, copy-buffer-to-buffer, copy-query-results, begin-query, end-query, write-timestamp, reset-queries, set-bind-group, set-immediates, set-render-pipeline, set-compute-pipeline, set-index-buffer, set-vertex-buffer, set-viewport, set-scissor-rect, set-stencil-reference, set-blend-constants, draw, draw-indexed, draw-indirect, draw-indexed-indirect, dispatch-workgroups, dispatch-workgroups-indirect}
-use Rattle.calls.specs.Transfers.{bufferBarriers, bufferBarrierCommands, barrierAbsent, textureBarrierCommands, onBoard, overRunBy, regionsOf, copyCommand, emptyCopy, queriesIn, copyQueriesCommand, rangeOut, dispatchCommands}
+use Rattle.calls.specs.Transfers.{bufferBarriers, bufferBarrierCommands, barrierAbsent, textureBarrierCommands, onBoard, overRunBy, regionsOf, copyCommand, emptyCopy, queriesIn, copyQueriesCommand, queriesOver, rangeOut, dispatchCommands}
 use Rattle.calls.specs.Settings.{viewportRect, scissorRect, referenced, indexed, boundSlot}
 use Rattle.calls.specs.Draws.{DrawArgs, drawCommand, drawIndexedCommand, indexOver, indirectCommands, indexedIndirectCommands, indirectOver, indirectAbsent}
 use Rattle.calls.specs.Parts.{withProgress, withVertex, withDraw, withFixed, withBind, withPass, withImmediates, withLocation, withTopology, withStencil, endVertex, endFixed, drawArgs, drawn}
@@ -82,8 +82,8 @@ beginRender caps s d label set =
     record {
       allowed = inOpen;
       asks =
-          refusing (ltb 8 (d .«color_attachment_count»)) (timestampsOut set (d .«timestamp_writes»)) false (passWrongKind d) false
-          ((label .present && overRun (label .bytes)) || overRun set);
+          refusing (ltb 8 (d .«color_attachment_count»)) (timestampsOut set (d .«timestamp_writes»)) false (passWrongKind d) (labelOver label (s .progress .bytes))
+          (overRun (label .bytes) || overRun set);
       commands = beginRenderCommands caps d label set (s .progress .bytes);
       bytes = labelBytes label;
       queries = [];
@@ -109,7 +109,7 @@ abbrev pub beginCompute : State → OptionTimestampWrites → Label → Lent →
 beginCompute s t label set =
     record {
       allowed = inOpen;
-      asks = refusing false (timestampsOut set t) false false false ((label .present && overRun (label .bytes)) || overRun set);
+      asks = refusing false (timestampsOut set t) false false (labelOver label (s .progress .bytes)) (overRun (label .bytes) || overRun set);
       commands = beginTimestamp set t ++ pushLabel label (s .progress .bytes);
       bytes = labelBytes label;
       queries = [];
@@ -152,7 +152,7 @@ abbrev pub copyQueryResults : State → QuerySet → ℕ → ℕ → Buffer → 
 copyQueryResults s set start end dst offset =
     record {
       allowed = inOpen;
-      asks = refusing false (rangeOut (set .queries) start end) false false false (overRun (set .queries));
+      asks = refusing false (rangeOut (set .queries) start end) false false (queriesOver (s .progress .queries) start end) (overRun (set .queries));
       commands = copyQueriesCommand (s .progress .queries) start end dst offset ∷ [];
       bytes = [];
       queries = queriesIn (set .queries) start end;
@@ -184,7 +184,7 @@ setBindGroup s l i e g os =
     (refusing
     (ltb 8 (l .«group_count») || (some? longGroup (take (l .«group_count») (l .groups)) || ltb 64 (g .«content_count»)))
     (leb (l .«group_count») i || some? entryOutOfRange (entriesOf l i e g))
-    (not (groupAt l i .present) || offsetMissing (entriesOf l i e g) (counted os))
+    (not (groupAt l i .present) || offsetMissing (entriesOf l i e g) (os .count))
     (some? entryWrongKind (entriesOf l i e g))
     (groupOver (entriesOf l i e g) (counted os))
     (overRun os))
@@ -195,7 +195,7 @@ abbrev pub setImmediates : State → ℕ → Lent → Meaning
 setImmediates s offset ws =
     record {
       allowed = inPass;
-      asks = refusing false (immediatesOutOfRange offset (ws .count)) false false false (overRun ws);
+      asks = refusing false (immediatesOutOfRange offset (ws .count)) false false (immediatesOver (descriptorsOf (s .immediates)) (s .progress .bytes)) (overRun ws);
       commands = immediateCommands (descriptorsOf (s .immediates)) (s .progress .bytes);
       bytes = immediateBytes (immediatesState (s .immediates) offset (counted ws) .words) (descriptorsOf (s .immediates));
       queries = [];
@@ -328,9 +328,13 @@ callConditions rooms s m =
       room = m .asks .room || overRoom (progressAfter m) (m .handed rooms);
     }
 
--- "The smallest number whose condition holds", of the call and of the state that it is handed
+-- the conditions of the call and of the state that it is handed
+abbrev pub conditionsOf : Rooms → State → Meaning → Conditions
+conditionsOf rooms s m = either (stateConditions s (m .handed rooms)) (callConditions rooms s m)
+
+-- "The smallest number whose condition holds"
 unfoldable pub outcomeOf : Rooms → State → Meaning → Outcome
-outcomeOf rooms s m = smallest (either (stateConditions s (m .handed rooms)) (callConditions rooms s m))
+outcomeOf rooms s m = smallest (conditionsOf rooms s m)
 
 -- what a call leaves: its answer, the next state, and what it has appended
 pub record Step : Type 0 where

@@ -1,5 +1,5 @@
 -- Transitions, clears, copies, queries, dispatches: the calls with no state of their own. Definitions only.
-use Prim.Native.Nat.{ℕ, zero, suc, _+_, _*_, _-_}
+use Prim.Native.Nat.{ℕ, zero, suc, _+_, _*_, _-_, _^_}
 use mathlib.Core.Bool.{Bool, true, false, cond, not, _&&_, _||_}
 use mathlib.Core.List.{List, [], _∷_, _++_, map}
 use lib.Bits.{bitOr}
@@ -90,6 +90,10 @@ queriesIn set start end = take (end - start) (drop start (counted set))
 
 abbrev pub copyQueriesCommand : ℕ → ℕ → ℕ → Buffer → ℕ → Command
 copyQueriesCommand at start end dst offset = CopyQueryResults (record { start = at; end = at + (end - start) }) (dst .raw) (dst .target) offset
+
+-- 6: the end of the range in the query list past 32 bits
+abbrev pub queriesOver : ℕ → ℕ → ℕ → Bool
+queriesOver at start end = leb (2 ^ 32) (at + (end - start))
 
 -- 3: a range that ends before it starts, or past the set
 abbrev pub rangeOut : Lent → ℕ → ℕ → Bool

@@ -1,8 +1,8 @@
 // Whether a call is carried through: the smallest number whose condition holds of the call or of
 // the state that it is handed, and the progress after it. The contracts cite specs/Judge.antt.
-ghost use Prim.Native.Nat.{_+_};
+ghost use Prim.Native.Nat.{_+_, _^_};
 ghost use mathlib.Core.Path.{_≡_};
-ghost use lib.Dec.{ltb};
+ghost use lib.Dec.{leb, ltb};
 ghost use Rattle.records.specs.Check.{overRoom};
 ghost use Rattle.records.specs.Outcome.{accepted as acceptedOf};
 ghost use mathlib.Core.Bool.{cond};
@@ -35,6 +35,13 @@ fn exceeds(limit: usize, used: usize, more: usize) -> bool
         return true;
     }
     limit - used < more
+}
+
+// A sum past 32 bits, without one that leaves its field.
+pub fn past_u32(used: usize, more: usize) -> bool
+    ensures { λ r. ⌜ r ≡ leb (2 ^ 32) (used + more) ⌝ }
+{
+    exceeds(4294967295, used, more)
 }
 
 fn over_after(p: Progress, phase: Phase, more: Counts, r: Rooms) -> bool

@@ -12,9 +12,14 @@ in-pass-requires c κs = search needs
 group-too-many-requires : tie.Need-group-too-many-requires
 group-too-many-requires c κs = search needs
 
+cast-t16 : tie.Need-cast-t16
+cast-t16 c = search needs
+
 returns : tie.Need-returns
-returns c = rw (c .before .before .before .before .group-too-many .ensures, c .before .before .before .before .before .in-pass .ensures, c .before .before .before .before .before .before .group-at .ensures)
+returns c =
+    let d = c .before .before .before .before in
+    rw (d .group-too-many .ensures, d .before .in-pass .ensures, d .before .before .group-at .ensures)
 
 pub group-asks-spec : {M : Type 1} → statement M
 group-asks-spec =
-    tie.close (tie.spec group-at-requires in-pass-requires group-too-many-requires returns)
+    tie.close (tie.spec group-at-requires in-pass-requires group-too-many-requires cast-t16 returns)

@@ -9,7 +9,7 @@ use Rattle.records.specs.declared.command.Command.{Command}
 use Rattle.records.specs.declared.command.Command.the-variants.{PopDebugGroup}
 use Rattle.records.specs.declared.outcome.Conditions.{Conditions}
 use Rattle.records.specs.declared.state.BindState.{BindState}
-use Rattle.bindings.specs.Group.{Entry, entriesOf, groupCommands, groupState, groupTextures, groupSamplers}
+use Rattle.bindings.specs.Group.{Entry, entriesOf, groupCommands, groupState, texturesNamed, samplersNamed}
 use Rattle.bindings.specs.Units.{dirtyUnits, samplerCommands}
 use Rattle.calls.specs.Meaning.{Meaning}
 use Rattle.calls.specs.Parts.{withBind}
@@ -78,7 +78,7 @@ returns c =
     let swept = sweep .ensures in
     let dirty = e .before .before .before .dirty-units in
     let new : BindState = groupState xs (s .bind) in
-    let units : ℕ = dirtyUnits new (groupTextures xs 0) (groupSamplers xs 0) in
+    let units : ℕ = dirtyUnits new (texturesNamed xs) (samplersNamed xs) in
     let gs : List Command = groupCommands xs os in
     let cs : List Command = gs ++ samplerCommands new units in
     let named : dirty .result ≡ units = rw (swept .2, swept .3, swept .4) at (dirty .ensures) in
@@ -96,7 +96,7 @@ returns c =
       room = m .asks .room;
     } in
     let k = found (a .room) s asks phase cs _ _ _ _ _ (v .before .before .before .before .list-rooms .ensures) (v .before .before .broken-limits .ensures) (rw (swept .0, more) (sym (length-append gs (samplerCommands new units)))) (v .before .before .before .commands-only .ensures)
-    (rw (v .before .before .before .before .before .group-asks .ensures, swept .5, swept .6, swept .7, swept .8, e .over-run .ensures) at (v .before .judge .ensures)) (v .spot-of .ensures) in
+    (rw (v .before .before .before .before .before .group-asks .ensures, swept .1, swept .5, swept .6, swept .7, e .over-run .ensures) at (v .before .judge .ensures)) (v .spot-of .ensures) in
     let after = bind-moved _ _ new _ s _ _ (c .taken-bind .ensures) (swept .2) (k .sure) in (
       (k .said, next (a .room) s asks phase cs k (withBind new s) _ after),
       laid (a .room) s asks phase cs _ _ _ (k .here) (k .many) (λ h i l. ap (λ (x : List Command). getD x i PopDebugGroup) all),

@@ -11,14 +11,17 @@ out-of-range-requires c κs = search needs
 over-run-requires : tie.Need-over-run-requires
 over-run-requires c κs = search needs
 
+work-out-requires : tie.Need-work-out-requires
+work-out-requires c κs = search needs
+
+ends-past-requires : tie.Need-ends-past-requires
+ends-past-requires c κs = search needs
+
 in-pass-requires : tie.Need-in-pass-requires
 in-pass-requires c κs = search needs
 
 immediate-asks-requires : tie.Need-immediate-asks-requires
 immediate-asks-requires c κs = search needs
-
-work-out-requires : tie.Need-work-out-requires
-work-out-requires c κs = search needs
 
 byte-rooms-requires : tie.Need-byte-rooms-requires
 byte-rooms-requires c κs = search needs
@@ -42,17 +45,18 @@ returns : tie.Need-returns
 returns c =
     let placed = c .before .before .before .before in
     let judging = placed .before .before in
-    let working = judging .before .before .before .before .before in
-    let asking = working .before in
-    let a = asking .before .before .before .before .before .before .before .args in
+    let asking = judging .before .before .before .before .before in
+    let working = asking .before .before .before in
+    let a = working .before .before .before .before .before .before .args in
     let ws : Lent = record { run = a .words .now; count = a .count } in
     let w = working .work-out in
     let v =
     rw (
       asking .immediate-asks .ensures,
       asking .before .in-pass .ensures,
-      asking .before .before .over-run .ensures,
-      asking .before .before .before .out-of-range .ensures,
+      asking .before .before .ends-past .ensures,
+      working .before .over-run .ensures,
+      working .before .before .out-of-range .ensures,
       judging .before .before .byte-rooms .ensures,
       judging .before .broken-limits .ensures,
     ) at (judging .judge .ensures) in
@@ -66,9 +70,10 @@ plan-set-immediates-spec =
     (tie.spec
     out-of-range-requires
     over-run-requires
+    work-out-requires
+    ends-past-requires
     in-pass-requires
     immediate-asks-requires
-    work-out-requires
     byte-rooms-requires
     broken-limits-requires
     judge-requires

@@ -6,7 +6,7 @@ use lib.ListN.{length, take}
 use Rattle.records.specs.declared.state.ImmediateState.{ImmediateState}
 use Rattle.records.proofs.Long.{descs-long}
 use Rattle.bindings.specs.Immediates.{descriptorsOf, immediatesState}
-use Rattle.bindings.specs.Placed.{placesOf, commands-long}
+use Rattle.bindings.specs.Placed.{placesOf, commands-long, bytes-size}
 use Rattle.bindings.proofs.Bytes.{counted-long}
 use Rattle.bindings.proofs.Long.{words-long}
 use borrow.Author.Needs.{needs}
@@ -40,14 +40,16 @@ returns c =
     let first = c .before .before .before .within in
     let placed = c .before .before .place-descriptors in
     let n = c .before .within2 in
+    let limit : first .result ≤ 65536 = omega (arith, first .ensures) in
+    let old : length (i .words) ≡ 64 = words-long i _ (st .good .1 .1 .0) in
     record {
       many = n .ensures ∙ sym (counted-long (i .descs) (i .count) (descs-long i _ (st .good .1 .1 .0))) ∙ sym (commands-long (descriptorsOf i) (a .used));
       few = omega (arith, n .ensures);
       small = placed .ensures .0;
+      sized = λ good. placed .ensures .1 good limit .1 (i .words) old ∙ bytes-size (i .words) (descriptorsOf i) old good;
       right =
           λ range good used.
           let same : first .result ≡ a .used = omega (arith, first .ensures) in
-          let limit : first .result ≤ 65536 = omega arith in
           let p = placed .ensures .1 good limit in
           let e = after .ensures range in
           record {

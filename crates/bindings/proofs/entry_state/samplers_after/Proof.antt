@@ -1,5 +1,6 @@
 -- `bindings::entry_state::samplers_after` meets its contract, case by case. Assumes nothing.
 use borrow.Author.Needs.{needs}
+use Rattle.mask.specs.Mask.{setBitIf}
 use Rattle.bindings.proofs.entry_state.samplers_after.Statement.{statement}
 use Rattle.bindings.proofs.entry_state.samplers_after.Tie as tie
 
@@ -15,20 +16,23 @@ enum-known-raw-3 c = search needs
 enum-known-raw-4 : tie.Need-enum-known-raw-4
 enum-known-raw-4 c = search needs
 
-set-requires : tie.Need-set-requires
-set-requires c κs = search needs
+set-if-requires : tie.Need-set-if-requires
+set-if-requires c κs = search needs
 
 returns : tie.Need-returns
+unfolding setBitIf
 returns c = search needs
 
 returns-2 : tie.Need-returns-2
+unfolding setBitIf
 returns-2 c = simp (c .before .raw2 .given .1)
 
 returns-3 : tie.Need-returns-3
+unfolding setBitIf
 returns-3 c = search needs
 
 returns-4 : tie.Need-returns-4
-returns-4 c = simp (c .before .before .raw4 .given .1) (c .set .ensures)
+returns-4 c = simp (c .before .before .before .raw4 .given .1) (c .set-if .ensures)
 
 pub samplers-after-spec : {M : Type 1} → statement M
 samplers-after-spec =
@@ -38,7 +42,7 @@ samplers-after-spec =
     enum-known-raw-2
     enum-known-raw-3
     enum-known-raw-4
-    set-requires
+    set-if-requires
     returns
     returns-2
     returns-3

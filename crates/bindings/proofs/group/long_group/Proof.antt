@@ -43,14 +43,14 @@ loop-less c = omega arith
 loop-again : tie.Need-loop-again Inv-loop μ-loop
 unfolding some?
 loop-again c =
-    let s = c .before .before .before .before .before .before in
+    let s = c .before .before .before .before .before .before .before in
     let l = s .args .l in
-    let p = c .before .before .before .loop in
+    let p = c .before .before .before .before .loop in
     let e = groups-long l _ (s .good .0) in (
       omega arith,
       λ count q.
           let h : p .left ≤ min count 8 = omega (arith, q) in
-          rw (one-counted (l .groups) count 8 (p .left) noGroup e (c .before .before .loop-test .taken) h, p .inv .1 count q),
+          rw (one-counted (l .groups) count 8 (p .left) noGroup e (c .before .before .before .loop-test .taken) h, p .inv .1 count q),
     )
 
 returns : tie.Need-returns Inv-loop μ-loop

@@ -49,9 +49,6 @@ mul-content c = omega arith
 array-copy-out-content : tie.Need-array-copy-out-content Inv-loop μ-loop
 array-copy-out-content c = omega arith
 
-none-left-requires : tie.Need-none-left-requires Inv-loop μ-loop
-none-left-requires c κs = search needs
-
 offset-at-requires : tie.Need-offset-at-requires Inv-loop μ-loop
 offset-at-requires c κs = search needs
 
@@ -66,7 +63,7 @@ loop-less c = omega arith
 
 loop-again : tie.Need-loop-again Inv-loop μ-loop
 loop-again c =
-    let b = c .before .before .before .before .before .before in
+    let b = c .before .before .before .before .before in
     let st = b .before .before .before .before .before .before in
     let a = st .args in
     let l = b .loop in
@@ -74,13 +71,12 @@ loop-again c =
     let n = b .before .before .before .reached .result in
     let le = entries-long (a .e) _ (st .good .1 .1 .1 .1 .0) in
     let lc = contents-long (a .g) _ (st .good .1 .1 .1 .1 .1 .0) in
-    let none = c .before .before .none-left in
     let next = c .before .offset-at in
     let p : l .j + 1 ≡ suc (l .j) = omega arith in
-    let h : l .j < n = c .before .before .before .before .before .loop-test .taken in
+    let h : l .j < n = c .before .before .before .before .loop-test .taken in
     let e = getD (a .e .entries) (l .j) noEntry in
     let r = getD (a .g .contents) (l .j) noContent .binding in
-    let q : c .sweep-entry .result ≡ sweepOne e r (none .result) (next .result) (l .sweep) = c .sweep-entry .ensures in
+    let q : c .sweep-entry .result ≡ sweepOne e r (next .result) (l .sweep) = c .sweep-entry .ensures in
     let k : c .sweep-entry .result .count ≡ l .sweep .count + digitOf (recordsOne r) = ap (λ (s : Sweep). s .count) q in
     let u : c .sweep-entry .result .used ≡ l .sweep .used + digitOf (takesOffset e r) = ap (λ (s : Sweep). s .used) q in (
       omega arith,
@@ -88,8 +84,8 @@ loop-again c =
       omega (arith, k, digit-le (recordsOne r)),
       omega (arith, u, digit-le (takesOffset e r)),
       rw p
-          (sweep-step (a .e .entries) (a .g .contents) le lc n (l .j) os (l .sweep) (c .sweep-entry .result) (none .result) (next .result)
-          h (l .inv .1) (none .ensures) (next .ensures) q
+          (sweep-step (a .e .entries) (a .g .contents) le lc n (l .j) os (l .sweep) (c .sweep-entry .result) (next .result)
+          h (l .inv .1) (next .ensures) q
           ∙ l .inv .4),
     )
 
@@ -127,7 +123,6 @@ sweep-entries-spec =
     array-copy-out-entry
     mul-content
     array-copy-out-content
-    none-left-requires
     offset-at-requires
     sweep-entry-requires
     add-j

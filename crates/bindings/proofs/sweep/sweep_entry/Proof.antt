@@ -13,14 +13,14 @@ records-one-requires c κs = search needs
 one-if-requires : tie.Need-one-if-requires
 one-if-requires c κs = search needs
 
-add-t10 : tie.Need-add-t10
-add-t10 c = omega arith
+add-t9 : tie.Need-add-t9
+add-t9 c = omega arith
 
 one-if-requires-2 : tie.Need-one-if-requires-2
 one-if-requires-2 c κs = search needs
 
-add-t12 : tie.Need-add-t12
-add-t12 c = omega arith
+add-t11 : tie.Need-add-t11
+add-t11 c = omega arith
 
 entry-state-requires : tie.Need-entry-state-requires
 entry-state-requires c κs = search needs
@@ -42,7 +42,7 @@ offset-over-requires c κs = search needs
 
 returns : tie.Need-returns
 returns c =
-    let d = c .before .before .before .before .before .before in
+    let d = c .before .before .before .before .before in
     let f = d .before .before .before in
     let h = f .before .before in
     let k = h .before .before .before in
@@ -66,9 +66,9 @@ sweep-entry-spec =
     takes-offset-requires
     records-one-requires
     one-if-requires
-    add-t10
+    add-t9
     one-if-requires-2
-    add-t12
+    add-t11
     entry-state-requires
     textures-after-requires
     samplers-after-requires
