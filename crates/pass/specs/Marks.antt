@@ -1,6 +1,6 @@
 -- What both kinds of pass begin and end with: timestamps and the label. Definitions only.
-use Prim.Native.Nat.{ℕ, _+_}
-use mathlib.Core.Bool.{Bool, true, false, cond, not, _||_}
+use Prim.Native.Nat.{ℕ, _+_, _^_}
+use mathlib.Core.Bool.{Bool, true, false, cond, not, _&&_, _||_}
 use mathlib.Core.List.{List, [], _∷_}
 use mathlib.Core.Option.{Option, none, some}
 use lib.Dec.{leb, ltb}
@@ -64,6 +64,10 @@ labelBytes l = cond (l .present) (counted (l .bytes)) []
 -- "An empty label is still pushed and popped"; its bytes go to the marker bytes, from the place at on
 abbrev pub pushLabel : Label → ℕ → List Command
 pushLabel l at = cond (l .present) (PushDebugGroup (record { start = at; end = at + l .bytes .count }) ∷ []) []
+
+-- 6: the end of the label's bytes past 32 bits
+abbrev pub labelOver : Label → ℕ → Bool
+labelOver l at = l .present && leb (2 ^ 32) (at + l .bytes .count)
 
 abbrev pub popLabel : Bool → List Command
 popLabel true = PopDebugGroup ∷ []

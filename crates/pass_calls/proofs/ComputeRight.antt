@@ -4,7 +4,7 @@ use mathlib.Core.Bool.{Bool, true, false, cond, not, _&&_, _||_}
 use mathlib.Core.List.{List, [], _++_}
 use mathlib.Core.Path.{_≡_, sym, ap, _∙_, subst}
 use native.Mathlib.Omega.{arith}
-use lib.Dec.{ltb}
+use lib.Dec.{leb, ltb}
 use lib.ListN.{length, getD, replicate, length-replicate}
 use Rattle.records.specs.Outcome.{accepted}
 use Rattle.records.specs.declared.command.Command.{Command}
@@ -38,8 +38,8 @@ module _ (s : State) (t : OptionTimestampWrites) (set : Lent) (room bytes len : 
         range = timestampsOut set t;
         absent = false;
         kind = false;
-        sum = false;
-        room = (has && ltb l count) || overRun set;
+        sum = has && leb (2 ^ 32) (s .progress .bytes + count);
+        room = ltb l count || overRun set;
       }
 
   abbrev cs : List ℕ → List Command
@@ -70,7 +70,7 @@ module _ (s : State) (t : OptionTimestampWrites) (set : Lent) (room bytes len : 
         ap (λ (x : List Command). x ++ pushLabel (labelOf has [] size) (s .progress .bytes)) stamped
         ∙ ap (λ (x : List Command). beginTimestamp set t ++ x)
         (push-same has run count size (s .progress .bytes) (size-is run h)
-        (neither (has && ltb (length run) count) (overRun set) (not-short (byteRooms room bytes) s (asks (length run)) Compute (length (cs run)) (length (bs run)) y) .0))
+        (neither (ltb (length run) count) (overRun set) (not-short (byteRooms room bytes) s (asks (length run)) Compute (length (cs run)) (length (bs run)) y) .0))
 
     allowed : (i : ℕ) → i < m .n → ComputeAllowed batch i
     allowed i w =

@@ -1,6 +1,6 @@
 -- A label's bytes, and the command that pushes it. Assumes nothing.
 use Prim.Native.Nat.{ℕ, min, _<_, _≤_, zero-le}
-use mathlib.Core.Bool.{Bool, true, false, cond, _&&_}
+use mathlib.Core.Bool.{Bool, true, false, cond}
 use mathlib.Core.List.{List, []}
 use mathlib.Core.Path.{_≡_, refl, sym, ap, subst}
 use native.Mathlib.Omega.{arith}
@@ -27,7 +27,7 @@ label-bytes true run count i h = sym (getD-take count run i 0 (omega (arith, len
 label-bytes false run count i h = none-below h
 
 -- of a label that is not short all bytes count
-pub push-same : (has : Bool) (run : List ℕ) (count size at : ℕ) → size ≡ length (labelBytes (labelOf has run count)) → has && ltb (length run) count ≡ false
+pub push-same : (has : Bool) (run : List ℕ) (count size at : ℕ) → size ≡ length (labelBytes (labelOf has run count)) → ltb (length run) count ≡ false
     → pushLabel (labelOf has [] size) at ≡ pushLabel (labelOf has run count) at
 push-same true run count size at e h =
     let l : count ≤ length run = ltb-false (length run) count h in

@@ -1,6 +1,6 @@
 -- The commands of the beginning of a render pass, by the batch of its plan. Assumes nothing.
 use Prim.Native.Nat.{ℕ}
-use mathlib.Core.Bool.{Bool, false, _&&_}
+use mathlib.Core.Bool.{Bool, false}
 use mathlib.Core.List.{List, [], _++_}
 use mathlib.Core.Path.{_≡_, sym, ap, _∙_}
 use lib.Dec.{ltb}
@@ -27,7 +27,7 @@ render-is b k =
 
 -- the batch's are the call's
 pub render-same : (caps : PrivateCapabilities) (d : RenderPassDescriptor) (p : BeginPlan) (label : Bool) (set : Lent) (run : List ℕ) (count size from at n : ℕ) → p ≡ beginPlan caps d label set
-    → size ≡ length (labelBytes (labelOf label run count)) → label && ltb (length run) count ≡ false
+    → size ≡ length (labelBytes (labelOf label run count)) → ltb (length run) count ≡ false
     → renderCommands (record { at = at; n = n; caps = caps; d = d; plan = p; from = from; size = size }) ≡ beginRenderCommands caps d (labelOf label run count) set from
 render-same caps d p label set run count size from at n e l h =
     ap (λ (x : BeginPlan). (timestamp (x .query) ++ pushLabel (labelOf (x .label) [] size) from) ++ framing caps d) e

@@ -4,7 +4,7 @@ use mathlib.Core.Bool.{Bool, true, false, cond, not, _&&_, _||_}
 use mathlib.Core.List.{List}
 use mathlib.Core.Path.{_≡_, sym, ap, _∙_, subst}
 use native.Mathlib.Omega.{arith}
-use lib.Dec.{ltb}
+use lib.Dec.{leb, ltb}
 use lib.ListN.{length, getD, replicate, length-replicate}
 use borrow.Author.Tests.{ltb-false}
 use Rattle.records.specs.Outcome.{accepted}
@@ -42,8 +42,8 @@ module _ (caps : PrivateCapabilities) (s : State) (d : RenderPassDescriptor) (se
         range = timestampsOut set (d .«timestamp_writes»);
         absent = false;
         kind = passWrongKind d;
-        sum = false;
-        room = (has && ltb l count) || overRun set;
+        sum = has && leb (2 ^ 32) (s .progress .bytes + count);
+        room = ltb l count || overRun set;
       }
 
   abbrev cs : List ℕ → List Command
@@ -70,7 +70,7 @@ module _ (caps : PrivateCapabilities) (s : State) (d : RenderPassDescriptor) (se
     same : (run : List ℕ) → length run ≡ len → accepted (markedOutcome room bytes s (asks (length run)) Render (length (cs run)) (length (bs run))) ≡ true → renderCommands batch ≡ cs run
     same run h t =
         render-same caps d p has set run count size (s .progress .bytes) (m .at) (m .n) planned (size-is run h)
-        (neither (has && ltb (length run) count) (overRun set) (not-short (byteRooms room bytes) s (asks (length run)) Render (length (cs run)) (length (bs run)) t) .0)
+        (neither (ltb (length run) count) (overRun set) (not-short (byteRooms room bytes) s (asks (length run)) Render (length (cs run)) (length (bs run)) t) .0)
 
     allowed : (i : ℕ) → i < m .n → RenderAllowed batch i
     allowed i w =

@@ -2,7 +2,7 @@
 // bytes. The contracts cite specs/Marked.antt.
 ghost use Prim.Native.Nat.{min};
 ghost use mathlib.Core.Path.{_≡_};
-ghost use mathlib.Core.Bool.{cond, not, false as no, _&&_};
+ghost use mathlib.Core.Bool.{cond, not, false as no};
 ghost use lib.Dec.{ltb};
 ghost use lib.ListN.{length, getD};
 ghost use Rattle.walks.specs.Fill.{filled};
@@ -40,16 +40,24 @@ pub fn label_size(has_label: bool, count: usize, len: usize) -> usize
     if has_label { within(count, len) } else { 0 }
 }
 
-// A label whose count is above its run.
-pub fn label_short(has_label: bool, count: usize, len: usize) -> bool
-    ensures { λ r. ⌜ r ≡ «has_label» && ltb len count ⌝ }
+// A count above the label's run, whether there is a label or not.
+pub fn label_short(count: usize, len: usize) -> bool
+    ensures { λ r. ⌜ r ≡ ltb len count ⌝ }
 {
-    has_label & (len < count)
+    len < count
 }
 
-// The phase, too many places, an index past the set, a wrong kind, and a count above its run.
-pub fn begin_asks(allowed: bool, many: bool, range: bool, kind: bool, short: bool) -> Conditions
-    ensures { λ r. ⌜ r ≡ record { phase = not allowed; many = many; range = range; absent = no; kind = kind; sum = no; room = short } ⌝ }
+// The phase, too many places, an index past the set, a wrong kind, a label that ends past 32 bits,
+// and a count above its run.
+pub fn begin_asks(
+    allowed: bool,
+    many: bool,
+    range: bool,
+    kind: bool,
+    sum: bool,
+    short: bool,
+) -> Conditions
+    ensures { λ r. ⌜ r ≡ record { phase = not allowed; many = many; range = range; absent = no; kind = kind; sum = sum; room = short } ⌝ }
 {
     Conditions {
         phase: !allowed,
@@ -57,7 +65,7 @@ pub fn begin_asks(allowed: bool, many: bool, range: bool, kind: bool, short: boo
         range,
         absent: false,
         kind,
-        sum: false,
+        sum,
         room: short,
     }
 }

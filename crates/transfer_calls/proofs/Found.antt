@@ -24,7 +24,7 @@ use Rattle.calls.specs.Judge.{grown, judged, taken}
 use Rattle.calls.specs.Meaning.{Meaning, inOpen}
 use Rattle.calls.specs.Planned.{queryRooms}
 use Rattle.calls.specs.Step.{outcomeOf, progressAfter, copyQueryResults}
-use Rattle.calls.specs.Transfers.{queriesIn, rangeOut, copyQueriesCommand}
+use Rattle.calls.specs.Transfers.{queriesIn, queriesOver, rangeOut, copyQueriesCommand}
 use Rattle.calls.proofs.Judged.{neither, none-holds, fitting, no-range}
 use Rattle.calls.proofs.Plans.{put, stays-put, only-at}
 use Rattle.transfer_calls.specs.declared.resolved.ResolvedPlan.{ResolvedPlan}
@@ -80,7 +80,7 @@ module _ (run : List ℕ) (count target start end room queries : ℕ) (s : State
         range = rangeOut (set .queries) start end;
         absent = false;
         kind = false;
-        sum = false;
+        sum = queriesOver (s .progress .queries) start end;
         room = overRun (set .queries);
       }
 

@@ -1,8 +1,11 @@
 // `copy_query_results`. The contracts cite calls/specs/Step.antt and Did.antt.
+ghost use Prim.Native.Nat.{_-_};
+ghost use mathlib.Core.Bool.{not, false as no};
 ghost use mathlib.Core.Path.{_≡_};
 ghost use Rattle.calls.specs.Call.{copy-query-results};
 ghost use Rattle.calls.specs.Did.{Resolves};
 ghost use Rattle.calls.specs.Step.{copyQueryResults};
+ghost use Rattle.calls.specs.Transfers.{queriesOver};
 ghost use Rattle.transfer_calls.specs.Resolved.{ResolvedOf};
 use crate::resolved::Resolved;
 use crate::resolved::ResolvedPlan;
@@ -13,14 +16,15 @@ use crate::resolved::record_resolved;
 use crate::resolved::resolved_answer;
 use calls::judge::Counts;
 use calls::judge::judge;
+use calls::judge::past_u32;
 use calls::judge::query_rooms;
 use calls::judge::spot_of;
 use calls::phase::in_open;
-use calls::phase::run_asks;
 use pass::marks::over_run;
 use records::args::Buffer;
 use records::check::broken_limits;
 use records::command::Record;
+use records::outcome::Conditions;
 use records::pipeline::PrivateCapabilities;
 use records::state::Answer;
 use records::state::State;
@@ -33,6 +37,39 @@ fn one_and(queries: usize) -> Counts
         commands: 1,
         bytes: 0,
         queries,
+    }
+}
+
+// The queries that a range asks for: none where it ends before it starts.
+fn asked(start: u32, end: u32) -> usize
+    ensures { λ r. ⌜ r ≡ end - start ⌝ }
+{
+    if end < start {
+        return 0;
+    }
+    (end - start) as usize
+}
+
+// The range of the query list ends past 32 bits.
+fn queries_over(at: usize, start: u32, end: u32) -> bool
+    ensures { λ r. ⌜ r ≡ queriesOver at start end ⌝ }
+{
+    past_u32(at, asked(start, end))
+}
+
+// The phase, a range past the set, a range of the query list past 32 bits, and a count above its
+// run.
+fn results_asks(allowed: bool, range: bool, sum: bool, short: bool) -> Conditions
+    ensures { λ r. ⌜ r ≡ record { phase = not allowed; many = no; range = range; absent = no; kind = no; sum = sum; room = short } ⌝ }
+{
+    Conditions {
+        phase: !allowed,
+        many: false,
+        range,
+        absent: false,
+        kind: false,
+        sum,
+        room: short,
     }
 }
 
@@ -54,9 +91,10 @@ pub fn plan_copy_query_results(
     let p = s.progress;
     let phase = p.phase;
     let range = (end < start) | (count < (end as usize));
+    let sum = queries_over(p.queries, start, end);
     let short = over_run(set, count);
     let size = query_count(set, count, start, end);
-    let c = run_asks(in_open(phase), range, short);
+    let c = results_asks(in_open(phase), range, sum, short);
     let rooms = query_rooms(room, queries_room);
     let more = one_and(size);
     let broken = broken_limits(s);

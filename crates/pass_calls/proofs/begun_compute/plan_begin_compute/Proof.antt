@@ -9,6 +9,9 @@ use Rattle.pass_calls.proofs.begun_compute.plan_begin_compute.Tie as ti
 timestamps-out-requires : tie.Need-timestamps-out-requires
 timestamps-out-requires c κs = search needs
 
+past-u32-requires : tie.Need-past-u32-requires
+past-u32-requires c κs = search needs
+
 label-short-requires : tie.Need-label-short-requires
 label-short-requires c κs = search needs
 
@@ -41,18 +44,27 @@ plan-mark-requires c κs = search needs
 
 returns : tie.Need-returns
 returns c =
-    let a = c .before .before .before .before .before .before .before .before .before .before .before .before .before .before .before .args in
+    let a = c .before .before .before .before .before .before .before .before .before .before .before .before .before .before .before .before .args in
+    let asks = c .before .before .before .before .before .before .before .before in
     let set : Lent = record { run = now (a .set); count = a .set-count } in
     let n = c .before .before .before .before .opening-count in
     compute-right (a .s) (a .t) set (a .room) (a .bytes-room) (a .label-len) (a .has-label) (a .label-count) _ _ _ _ _ _
-    (rw (c .before .before .before .before .before .before .before .before .in-open .ensures, c .before .before .before .before .before .before .before .before .before .before .before .timestamps-out .ensures (now (a .set)), c .before .before .before .before .before .before .before .before .before .before .label-short .ensures, c .before .before .before .before .before .before .before .before .before .over-run .ensures) at (c .before .before .before .before .before .before .before .begin-asks .ensures))
-    (c .before .before .before .before .before .begin-query .ensures .1) (n .ensures .2) (n .ok) (c .before .before .before .before .before .before .label-size .ensures) (c .before .before .before .begin-compute-pass .ensures) (c .before .before .plan-mark .ensures)
+    (rw (
+      asks .in-open .ensures,
+      asks .before .before .before .before .timestamps-out .ensures (now (a .set)),
+      asks .before .before .before .past-u32 .ensures,
+      asks .before .before .label-short .ensures,
+      asks .before .over-run .ensures,
+    ) at (c .before .before .before .before .before .before .before .begin-asks .ensures))
+    (c .before .before .before .before .before .begin-query .ensures .1) (n .ensures .2) (n .ok)
+    (c .before .before .before .before .before .before .label-size .ensures) (c .before .before .before .begin-compute-pass .ensures) (c .before .before .plan-mark .ensures)
 
 pub plan-begin-compute-spec : {M : Type 1} → statement M
 plan-begin-compute-spec =
     tie.close
     (tie.spec
     timestamps-out-requires
+    past-u32-requires
     label-short-requires
     over-run-requires
     in-open-requires

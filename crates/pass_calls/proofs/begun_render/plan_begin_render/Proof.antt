@@ -12,6 +12,9 @@ timestamps-out-requires c κs = search needs
 pass-wrong-kind-requires : tie.Need-pass-wrong-kind-requires
 pass-wrong-kind-requires c κs = search needs
 
+past-u32-requires : tie.Need-past-u32-requires
+past-u32-requires c κs = search needs
+
 label-short-requires : tie.Need-label-short-requires
 label-short-requires c κs = search needs
 
@@ -44,13 +47,22 @@ plan-mark-requires c κs = search needs
 
 returns : tie.Need-returns
 returns c =
-    let a = c .before .before .before .before .before .before .before .before .before .before .before .before .before .before .before .before .before .args in
+    let a = c .before .before .before .before .before .before .before .before .before .before .before .before .before .before .before .before .before .before .args in
+    let asks = c .before .before .before .before .before .before .before .before in
     let set : Lent = record { run = now (a .set); count = a .set-count } in
     let n = c .before .before .before .before .begun-count in
     let plan = c .before .before .before .before .before .begin-plan in
     render-right (a .caps) (a .s) (a .d) set (a .room) (a .bytes-room) (a .label-len) (a .has-label) (a .label-count) _ _ _ _ _ _
-    (rw (c .before .before .before .before .before .before .before .before .in-open .ensures, c .before .before .before .before .before .before .before .before .before .before .before .before .before .timestamps-out .ensures (now (a .set)), c .before .before .before .before .before .before .before .before .before .before .before .before .pass-wrong-kind .ensures, c .before .before .before .before .before .before .before .before .before .before .before .label-short .ensures, c .before .before .before .before .before .before .before .before .before .before .over-run .ensures) at (c .before .before .before .before .before .before .before .begin-asks .ensures))
-    (plan .ensures .0) (n .ensures) (plan .ensures .1) (n .ok) (c .before .before .before .before .before .before .label-size .ensures) (c .before .before .before .begin-render-pass .ensures) (c .before .before .plan-mark .ensures)
+    (rw (
+      asks .in-open .ensures,
+      asks .before .before .before .before .before .before .timestamps-out .ensures (now (a .set)),
+      asks .before .before .before .before .before .pass-wrong-kind .ensures,
+      asks .before .before .before .before .past-u32 .ensures,
+      asks .before .before .before .label-short .ensures,
+      asks .before .before .over-run .ensures,
+    ) at (c .before .before .before .before .before .before .before .begin-asks .ensures))
+    (plan .ensures .0) (n .ensures) (plan .ensures .1) (n .ok)
+    (c .before .before .before .before .before .before .label-size .ensures) (c .before .before .before .begin-render-pass .ensures) (c .before .before .plan-mark .ensures)
 
 pub plan-begin-render-spec : {M : Type 1} → statement M
 plan-begin-render-spec =
@@ -58,6 +70,7 @@ plan-begin-render-spec =
     (tie.spec
     timestamps-out-requires
     pass-wrong-kind-requires
+    past-u32-requires
     label-short-requires
     over-run-requires
     in-open-requires

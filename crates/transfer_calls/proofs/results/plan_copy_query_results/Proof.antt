@@ -5,6 +5,9 @@ use Rattle.transfer_calls.proofs.Found.{right}
 use Rattle.transfer_calls.proofs.results.plan_copy_query_results.Statement.{statement}
 use Rattle.transfer_calls.proofs.results.plan_copy_query_results.Tie as tie
 
+queries-over-requires : tie.Need-queries-over-requires
+queries-over-requires c κs = search needs
+
 over-run-requires : tie.Need-over-run-requires
 over-run-requires c κs = search needs
 
@@ -14,8 +17,8 @@ query-count-requires c κs = search needs
 in-open-requires : tie.Need-in-open-requires
 in-open-requires c κs = search needs
 
-run-asks-requires : tie.Need-run-asks-requires
-run-asks-requires c κs = search needs
+results-asks-requires : tie.Need-results-asks-requires
+results-asks-requires c κs = search needs
 
 query-rooms-requires : tie.Need-query-rooms-requires
 query-rooms-requires c κs = search needs
@@ -43,10 +46,22 @@ range-of-requires c κs = search needs
 
 returns : tie.Need-returns
 returns c =
-    let a = c .before .before .before .before .before .before .before .before .before .before .before .before .before .before .before .args in
-    let v = rw (c .before .before .before .before .before .before .before .before .query-rooms .ensures, c .before .before .before .before .before .before .broken-limits .ensures, c .before .before .before .before .before .before .before .one-and .ensures, c .before .before .before .before .before .before .before .before .before .before .before .query-count .ensures, c .before .before .before .before .before .before .before .before .before .run-asks .ensures, c .before .before .before .before .before .before .before .before .before .before .in-open .ensures, c .before .before .before .before .before .before .before .before .before .before .before .before .over-run .ensures) at (c .before .before .before .before .before .judge .ensures) in
+    let a = c .before .before .before .before .before .before .before .before .before .before .before .before .before .before .before .before .args in
+    let asks = c .before .before .before .before .before .before .before .before in
+    let conditions = rw (
+      asks .before .before .in-open .ensures,
+      asks .before .before .before .before .over-run .ensures,
+      asks .before .before .before .before .before .queries-over .ensures,
+    ) at (asks .before .results-asks .ensures) in
+    let v = rw (
+      asks .query-rooms .ensures,
+      c .before .before .before .before .before .before .broken-limits .ensures,
+      c .before .before .before .before .before .before .before .one-and .ensures,
+      asks .before .before .before .query-count .ensures,
+      conditions,
+    ) at (c .before .before .before .before .before .judge .ensures) in
     let place = rw (v .1) at (c .before .before .before .before .spot-of .ensures) in
-    let puts = rw (v .1, c .before .before .before .before .before .before .before .before .before .before .before .query-count .ensures) at (c .before .before .before .spot-of2 .ensures) in
+    let puts = rw (v .1, asks .before .before .before .query-count .ensures) at (c .before .before .before .spot-of2 .ensures) in
     let from = rw (v .1) at (c .before .before .spot-of3 .ensures .0) in
     right (a .set .now) (a .count) (a .target) (a .start) (a .end) (a .room) (a .queries-room) (a .s) (a .dst) (a .offset) _ (v .0) (v .2) place puts from (c .before .range-of .ensures) refl refl refl
 
@@ -54,10 +69,11 @@ pub plan-copy-query-results-spec : {M : Type 1} → statement M
 plan-copy-query-results-spec =
     tie.close
     (tie.spec
+    queries-over-requires
     over-run-requires
     query-count-requires
     in-open-requires
-    run-asks-requires
+    results-asks-requires
     query-rooms-requires
     one-and-requires
     broken-limits-requires
