@@ -5,6 +5,7 @@ use mathlib.Core.Bool.{Bool, true}
 use mathlib.Core.List.{List}
 use lib.ListN.{length}
 use Rattle.records.specs.declared.command.Record.{Record}
+use Rattle.records.specs.declared.outcome.Outcome.the-variants.{Done}
 use Rattle.records.specs.declared.pipeline.PrivateCapabilities.{PrivateCapabilities}
 use Rattle.records.specs.declared.state.State.{State}
 use Rattle.calls.specs.Call.{Call, begin-encoding}
@@ -15,9 +16,9 @@ use Rattle.calls.proofs.Listed.{keeps-done}
 use Rattle.order.specs.Machine.{fresh, play}
 use Rattle.order.specs.Book.{empty, bookOf}
 use Rattle.order.specs.Induction.{found}
-use Rattle.order.specs.Run.{carried, fed, Premises, begun}
+use Rattle.order.specs.Run.{Premises, begun}
 use Rattle.order.specs.Theorem.{named}
-use Rattle.order.specs.Ran.{commandsOf, order-of-run}
+use Rattle.order.specs.Ran.{answers, commandsOf, order-of-run}
 use Rattle.one_pass.specs.Script.{runsOf, Records}
 
 -- `begin_encoding` is handed no run and appends nothing
@@ -25,12 +26,12 @@ begins : (caps : PrivateCapabilities) (s : State) (r : Runs) → Did caps s r be
 unfolding outcomeOf
 begins caps s r = keeps-done caps s begin-encoding (λ r. refl) refl refl refl (record { outcome = step caps (roomsOf r) s begin-encoding .outcome; state = begun caps (roomsOf r) s .state }) refl refl r
 
-pub in-order : (room : ℕ) (caps : PrivateCapabilities) (s : State) (calls : List Call) (l : List Record) (bytes : List ℕ) (k : Kept) (bytes′ queries : List ℕ) (D : ℕ → Bool) → Records room caps s calls l bytes k bytes′
-    → carried caps (roomsOf (runsOf room l bytes queries)) s begin-encoding ≡ true
-    → Premises caps D empty (fed caps (roomsOf (runsOf room l bytes queries)) (begun caps (roomsOf (runsOf room l bytes queries)) s .state) calls)
-    → (length (play fresh (commandsOf (k .answer .state) (runsOf room (k .list) bytes′ queries)) .shots) ≡ length (bookOf caps empty (fed caps (roomsOf (runsOf room l bytes queries)) (begun caps (roomsOf (runsOf room l bytes queries)) s .state) calls) .draws))
-    × (found (bookOf caps empty (fed caps (roomsOf (runsOf room l bytes queries)) (begun caps (roomsOf (runsOf room l bytes queries)) s .state) calls) .draws) (play fresh (commandsOf (k .answer .state) (runsOf room (k .list) bytes′ queries)) .shots)
-    ≡ named (bookOf caps empty (fed caps (roomsOf (runsOf room l bytes queries)) (begun caps (roomsOf (runsOf room l bytes queries)) s .state) calls) .draws))
+pub in-order : (room : ℕ) (caps : PrivateCapabilities) (s : State) (calls : List Call) (l : List Record) (bytes : List ℕ) (k : Kept) (bytes′ queries : List ℕ) (D : ℕ → Bool) (R : Records room caps s calls l bytes k bytes′)
+    → step caps (roomsOf (runsOf room l bytes queries)) s begin-encoding .outcome ≡ Done
+    → Premises caps D empty (answers (R .0 queries))
+    → (length (play fresh (commandsOf (k .answer .state) (runsOf room (k .list) bytes′ queries)) .shots) ≡ length (bookOf caps empty (answers (R .0 queries)) .draws))
+    × (found (bookOf caps empty (answers (R .0 queries)) .draws) (play fresh (commandsOf (k .answer .state) (runsOf room (k .list) bytes′ queries)) .shots)
+    ≡ named (bookOf caps empty (answers (R .0 queries)) .draws))
 in-order room caps s calls l bytes k bytes′ queries D R e P =
     let r = runsOf room l bytes queries in
     order-of-run caps s (k .answer .state) r r (runsOf room (k .list) bytes′ queries) (record { outcome = step caps (roomsOf r) s begin-encoding .outcome; state = begun caps (roomsOf r) s .state }) calls D

@@ -1,25 +1,30 @@
 -- Each call keeps the tie: an accepted one by its own lemma, a refused one because it changes nothing. Assumes nothing.
 use Prim.Native.Nat.{ℕ, zero, suc, _+_, _*_, _<_}
-use mathlib.Core.Path.{_≡_, refl, sym, ap, _∙_, subst}
+use mathlib.Core.Path.{_≡_, refl, sym, ap, ap₂, _∙_, subst}
 use mathlib.Core.Bool.{Bool, true, false, cond, not, _&&_, _||_}
 use mathlib.Core.List.{List, [], _∷_, _++_, map, append-nil}
 use mathlib.Core.Option.{Option, none, some}
-use lib.Dec.{leb, eqb}
-use lib.ListN.{length, take}
-use borrow.Author.Tests.{leb-false}
+use lib.Dec.{leb, ltb, eqb}
+use lib.IntN.{ℤ}
+use lib.ListN.{length, getD, take}
+use borrow.Author.Tests.{leb-false, lt-ltb}
 use Rattle.tables.specs.Tabulate.{tabulate}
 use Rattle.records.specs.Outcome.{accepted}
 use Rattle.records.specs.Check.{some?}
+use Rattle.records.specs.declared.binding.BindGroup.{BindGroup}
+use Rattle.records.specs.declared.binding.GroupEntries.{GroupEntries}
+use Rattle.records.specs.declared.binding.GroupShape.{GroupShape}
+use Rattle.records.specs.declared.binding.PipelineLayout.{PipelineLayout}
 use Rattle.records.specs.declared.check.Rooms.{Rooms}
 use Rattle.records.specs.declared.command.Command.{Command}
-use Rattle.records.specs.declared.command.Command.the-variants.{DrawIndirect, DrawIndexedIndirect}
+use Rattle.records.specs.declared.command.Command.the-variants.{DrawIndexed, DrawIndirect, DrawIndexedIndirect}
 use Rattle.records.specs.declared.pipeline.PrivateCapabilities.{PrivateCapabilities}
 use Rattle.records.specs.declared.pipeline.RenderPipeline.{RenderPipeline}
 use Rattle.records.specs.declared.state.Phase.{Phase}
 use Rattle.records.specs.declared.state.Phase.the-variants.{Closed, Open, Render, Compute}
 use Rattle.records.specs.declared.state.State.{State}
 use Rattle.slots.specs.Prepare.{working, prepared}
-use Rattle.bindings.specs.Group.{entriesOf, entryOutOfRange}
+use Rattle.bindings.specs.Group.{Entry, zipped, noGroup, groupAt, entriesOf, entryOutOfRange, offsetMissing}
 use Rattle.bindings.specs.Immediates.{descriptorsOf, immediatesState}
 use Rattle.pipeline.specs.Inner.{innerOutOfRange}
 use Rattle.pipeline.specs.Vertex.{vertexOutOfRange}
@@ -32,52 +37,20 @@ use Rattle.calls.specs.Draws.{DrawArgs, drawCommand, drawIndexedCommand, indexT
 use Rattle.calls.specs.Parts.{withProgress, drawArgs, drawn}
 use Rattle.calls.specs.Meaning.{Meaning, inPass}
 use Rattle.calls.specs.Step.{meaning, progressAfter, outcomeOf, Step, step}
-use Rattle.order.specs.Lists.{false-true, or-left, or-right}
-use Rattle.order.specs.Machine.{Stage, before, first, later, Machine, fresh, exec, play}
-use Rattle.order.specs.Book.{Book, enter}
+use Rattle.order.specs.Lists.{false-true, not-false, or-left, or-right}
+use Rattle.order.specs.View.{Stage, before, first, later}
+use Rattle.order.specs.Machine.{Machine, fresh, exec, play}
+use Rattle.order.specs.Book.{Book, Bound, withBound, enterGroup, entriesIn, enter, enterDraw, enterDraws, typeOf, sizeOf}
+use Rattle.order.specs.Premise.{Ready, SameSlots, Premise}
+use Rattle.order.specs.Own.{described-is, type-is, size-is, groupBound, group-is}
 use Rattle.order.specs.Invariant.{First, Sane, DescribesOn, Tied}
 use Rattle.order.specs.Accepted.{in-phase, in-range, present, kinds}
 use Rattle.order.specs.Idle.{Idle, idle-append, idle-begin, idle-push, idle-pop, idle-timestamp, idle-buffers, idle-textures, idle-copies, idle-immediates, idle-dispatch}
-use Rattle.order.specs.Drawing.{Ready}
+use Rattle.order.specs.Drawing.{argsOf}
 use Rattle.order.specs.Keeps.{open-is, render-is, compute-is, started, recounted, idles, moves}
 use Rattle.order.specs.Calls.{by-begin-render, by-end-render, by-bind-group, by-compute-pipeline, by-index-buffer, by-screen, by-reference}
 use Rattle.order.specs.VertexCalls.{by-vertex-buffer, by-render-pipeline}
 use Rattle.order.specs.DrawCalls.{by-draw, by-indirect}
-
--- ---- document 01's premises, of one accepted call
--- "at each accepted draw of the first render pass the book has a pipeline and a buffer for each slot that this describes"; "with VERTEX_BUFFER_LAYOUT and without FULLY_FEATURED_INSTANCING all pipelines accepted in the pass describe the same slots"
-abbrev pub Premise : PrivateCapabilities → (ℕ → Bool) → Book → Call → Type 0
-Premise caps D b begin-encoding = Unit {0}
-Premise caps D b end-encoding = Unit {0}
-Premise caps D b end-render-pass = Unit {0}
-Premise caps D b end-compute-pass = Unit {0}
-Premise caps D b (begin-render-pass d label set) = Unit {0}
-Premise caps D b (begin-compute-pass t label set) = Unit {0}
-Premise caps D b (transition-buffers l) = Unit {0}
-Premise caps D b (transition-textures l) = Unit {0}
-Premise caps D b (clear-buffer x range) = Unit {0}
-Premise caps D b (copy-buffer-to-buffer src dst l) = Unit {0}
-Premise caps D b (copy-query-results set start end dst offset) = Unit {0}
-Premise caps D b (begin-query set i) = Unit {0}
-Premise caps D b (end-query set i) = Unit {0}
-Premise caps D b (write-timestamp set i) = Unit {0}
-Premise caps D b (reset-queries set start end) = Unit {0}
-Premise caps D b (set-bind-group l i e g os) = Unit {0}
-Premise caps D b (set-immediates offset ws) = Unit {0}
-Premise caps D b (set-render-pipeline p) = b .stage ≡ first → DescribesOn caps D p
-Premise caps D b (set-compute-pipeline p) = Unit {0}
-Premise caps D b (set-index-buffer raw offset format) = Unit {0}
-Premise caps D b (set-vertex-buffer i raw offset) = Unit {0}
-Premise caps D b (set-viewport r d) = Unit {0}
-Premise caps D b (set-scissor-rect r) = Unit {0}
-Premise caps D b (set-stencil-reference v) = Unit {0}
-Premise caps D b (set-blend-constants c) = Unit {0}
-Premise caps D b (draw vertex vertices instance instances) = b .stage ≡ first → Ready b
-Premise caps D b (draw-indexed fst count base instance instances) = b .stage ≡ first → Ready b
-Premise caps D b (draw-indirect raw offset n) = b .stage ≡ first → Ready b
-Premise caps D b (draw-indexed-indirect raw offset n) = b .stage ≡ first → Ready b
-Premise caps D b (dispatch-workgroups x y z) = Unit {0}
-Premise caps D b (dispatch-workgroups-indirect raw offset) = Unit {0}
 
 -- `begin_encoding` starts a new list: its machine is fresh
 abbrev pub resumed : Call → Machine → Machine
@@ -117,19 +90,44 @@ working-zero : (caps : PrivateCapabilities) (instance : ℕ) → caps .«fully_f
 working-zero caps instance e = ap (λ (t : Bool). cond t 0 instance) e
 
 -- the two indirect draws
-module _ (caps : PrivateCapabilities) (D : ℕ → Bool) (s : State) (m : Machine) (b : Book) (T : Tied caps D s m b) (ph : s .progress .phase ≡ Render) (ready : b .stage ≡ first → Ready b) where
-  indirect-is : (raw offset count n k l : ℕ)
+module _ (caps : PrivateCapabilities) (D : ℕ → Bool) (s : State) (m : Machine) (b : Book) (T : Tied caps D s m b) (ph : s .progress .phase ≡ Render) where
+  indirect-is : (raw offset count n k l : ℕ) → (b .stage ≡ first → 0 < count → Ready b)
       → Tied caps D (withProgress (record { phase = s .progress .phase; commands = n; bytes = k; queries = l }) (drawn caps 0 s))
       (play m (prepared caps (s .vertex) 0 ++ indirectCommands (drawArgs (s .draw)) raw offset count)) (enter caps b (draw-indirect raw offset count))
   unfolding indirectCommands
-  indirect-is raw offset count n k l = by-indirect caps D s m b T ph ready false (λ a i. DrawIndirect (a .topology) raw (offset + i * 16) (a .location)) count (λ a i x. refl) n k l
+  indirect-is raw offset count n k l ready =
+      by-indirect caps D s m b T ph false (λ a i. DrawIndirect (a .topology) raw (offset + i * 16) (a .location)) count ready (λ a i x. refl) n k l
 
-  indexed-indirect-is : (raw offset count n k l : ℕ)
+  indexed-indirect-is : (raw offset count n k l : ℕ) → (b .stage ≡ first → 0 < count → Ready b)
       → Tied caps D (withProgress (record { phase = s .progress .phase; commands = n; bytes = k; queries = l }) (drawn caps 0 s))
       (play m (prepared caps (s .vertex) 0 ++ indexedIndirectCommands (drawArgs (s .draw)) raw offset count)) (enter caps b (draw-indexed-indirect raw offset count))
   unfolding indexedIndirectCommands
-  indexed-indirect-is raw offset count n k l =
-      by-indirect caps D s m b T ph ready true (λ a i. DrawIndexedIndirect (a .topology) (indexType (a .format)) raw (offset + i * 20) (a .location)) count (λ a i x. refl) n k l
+  indexed-indirect-is raw offset count n k l ready =
+      subst (λ (t : ℕ). Left (λ i. DrawIndexedIndirect (argsOf b .topology) t raw (offset + i * 20) (argsOf b .location))) (sym (type-is (b .format)))
+      (by-indirect caps D s m b T ph true (λ a i. DrawIndexedIndirect (a .topology) (indexType (a .format)) raw (offset + i * 20) (a .location)) count ready (λ a i x. refl) n k l)
+    where
+      Left : (ℕ → Command) → Type 0
+      Left c =
+          Tied caps D (withProgress (record { phase = s .progress .phase; commands = n; bytes = k; queries = l }) (drawn caps 0 s))
+          (play m (prepared caps (s .vertex) 0 ++ tabulate count (λ i. DrawIndexedIndirect (s .draw .topology) (indexType (s .draw .«index_format»)) raw (offset + i * 20) (s .draw .«first_instance_location»)))) (enterDraws true c count b)
+
+-- the index offset and type of an indexed draw, in the book's words
+indexed-command : (b : Book) (fst count : ℕ) (base : ℤ) (instance instances : ℕ)
+    → drawIndexedCommand (argsOf b) fst count base instance instances
+    ≡ DrawIndexed (argsOf b .topology) (typeOf (b .format)) count (b .offset + sizeOf (b .format) * fst) base instance instances (argsOf b .location)
+indexed-command b fst count base instance instances =
+    ap₂ (λ (t n : ℕ). DrawIndexed (argsOf b .topology) t count (b .offset + n * fst) base instance instances (argsOf b .location)) (sym (type-is (b .format))) (sym (size-is (b .format)))
+
+-- the entries of an accepted bind group, in the book's words
+entries-are : (l : PipelineLayout) (i : ℕ) (e : GroupEntries) (g : BindGroup) → leb (l .«group_count») i ≡ false → not (groupAt l i .present) ≡ false
+    → zipped (entriesIn l i e) (take (g .«content_count») (g .contents)) ≡ entriesOf l i e g
+entries-are l i e g low there =
+    let within : ltb i (l .«group_count») ≡ true = lt-ltb i (l .«group_count») (leb-false (l .«group_count») i low) in
+    let group : groupAt l i ≡ getD (l .groups) i noGroup = ap (λ (t : Bool). cond t (getD (l .groups) i noGroup) noGroup) within in
+    let present : groupAt l i .present ≡ true = not-false (groupAt l i .present) there in
+    sym
+    (ap (λ (t : Bool). zipped (cond t (take (groupAt l i .«entry_count») (e .entries)) []) (take (g .«content_count») (g .contents))) present
+    ∙ ap (λ (x : GroupShape). zipped (take (x .«entry_count») (e .entries)) (take (g .«content_count») (g .contents))) group)
 
 module _ (caps : PrivateCapabilities) (D : ℕ → Bool) (rooms : Rooms) (s : State) (m : Machine) (b : Book) (T : Tied caps D s m b) where
   -- what an accepted call leaves
@@ -158,12 +156,20 @@ module _ (caps : PrivateCapabilities) (D : ℕ → Bool) (rooms : Rooms) (s : St
   accepts (write-timestamp set i) e P = still (meaning caps s (write-timestamp set i) .commands) (λ n. refl) _ _ _
   accepts (reset-queries set start end) e P = still (meaning caps s (reset-queries set start end) .commands) (λ n. refl) _ _ _
   accepts (set-bind-group l i x g os) e P =
-      by-bind-group caps D s m b T (entriesOf l i x g) (counted os) (or-right (leb (l .«group_count») i) (some? entryOutOfRange (entriesOf l i x g)) (in-range rooms s (meaning caps s (set-bind-group l i x g os)) e)) _ _ _
+      let q = meaning caps s (set-bind-group l i x g os) in
+      let r = in-range rooms s q e in
+      let there = or-left (not (groupAt l i .present)) (offsetMissing (entriesOf l i x g) (os .count)) (present rooms s q e) in
+      let xs : List Entry = entriesOf l i x g in
+      let named : groupBound xs (counted os) (b .bound) ≡ enterGroup (entriesIn l i x) (take (g .«content_count») (g .contents)) (counted os) (b .bound) =
+      ap (λ (ys : List Entry). groupBound ys (counted os) (b .bound)) (sym (entries-are l i x g (or-left (leb (l .«group_count») i) (some? entryOutOfRange xs) r) there))
+      ∙ sym (group-is (entriesIn l i x) (take (g .«content_count») (g .contents)) (counted os) (b .bound)) in
+      subst (λ (y : Bound). Tied caps D (withProgress (progressAfter q) (q .after)) (play m (q .commands)) (withBound y b)) named
+      (by-bind-group caps D s m b T xs (counted os) (or-right (leb (l .«group_count») i) (some? entryOutOfRange xs) r) _ _ _)
   accepts (set-immediates offset ws) e P = idles caps D s m b T (meaning caps s (set-immediates offset ws) .commands) (idle-immediates (descriptorsOf (s .immediates)) (s .progress .bytes)) (s .pass) (immediatesState (s .immediates) offset (counted ws)) _ _ _
   accepts (set-render-pipeline p) e P =
       let q = meaning caps s (set-render-pipeline p) in
       let r = in-range rooms s q e in
-      by-render-pipeline caps D s m b T (render-is (s .progress .phase) (in-phase rooms s q e)) p (or-left (vertexOutOfRange p) (innerOutOfRange (p .inner)) r) (or-right (vertexOutOfRange p) (innerOutOfRange (p .inner)) r) (present rooms s q e) (kinds rooms s q e) P _ _ _
+      by-render-pipeline caps D s m b T (render-is (s .progress .phase) (in-phase rooms s q e)) p (or-left (vertexOutOfRange p) (innerOutOfRange (p .inner)) r) (or-right (vertexOutOfRange p) (innerOutOfRange (p .inner)) r) (present rooms s q e) (kinds rooms s q e) (λ st layout emulated i low. sym (described-is p i) ∙ P st layout emulated i low) _ _ _
   accepts (set-compute-pipeline p) e P = by-compute-pipeline caps D s m b T (compute-is (s .progress .phase) (in-phase rooms s (meaning caps s (set-compute-pipeline p)) e)) (p .inner) _ _ _
   accepts (set-index-buffer raw offset format) e P = by-index-buffer caps D s m b T raw offset format _ _ _
   accepts (set-vertex-buffer i raw offset) e P =
@@ -177,10 +183,12 @@ module _ (caps : PrivateCapabilities) (D : ℕ → Bool) (rooms : Rooms) (s : St
       by-draw caps D s m b T (render-is (s .progress .phase) (in-phase rooms s (meaning caps s (draw vertex vertices instance instances)) e)) (working caps instance) (working-zero caps instance) P
       false (λ a. drawCommand a vertex vertices instance instances) (λ a x. refl) _ _ _
   accepts (draw-indexed fst count base instance instances) e P =
-      by-draw caps D s m b T (render-is (s .progress .phase) (in-phase rooms s (meaning caps s (draw-indexed fst count base instance instances)) e)) (working caps instance) (working-zero caps instance) P
-      true (λ a. drawIndexedCommand a fst count base instance instances) (λ a x. refl) _ _ _
-  accepts (draw-indirect raw offset n) e P = indirect-is caps D s m b T (render-is (s .progress .phase) (in-phase rooms s (meaning caps s (draw-indirect raw offset n)) e)) P raw offset n _ _ _
+      let q = meaning caps s (draw-indexed fst count base instance instances) in
+      subst (λ (c : Command). Tied caps D (withProgress (progressAfter q) (q .after)) (play m (q .commands)) (enterDraw (working caps instance) true c b)) (indexed-command b fst count base instance instances)
+      (by-draw caps D s m b T (render-is (s .progress .phase) (in-phase rooms s q e)) (working caps instance) (working-zero caps instance) P
+      true (λ a. drawIndexedCommand a fst count base instance instances) (λ a x. refl) _ _ _)
+  accepts (draw-indirect raw offset n) e P = indirect-is caps D s m b T (render-is (s .progress .phase) (in-phase rooms s (meaning caps s (draw-indirect raw offset n)) e)) raw offset n _ _ _ P
   accepts (draw-indexed-indirect raw offset n) e P =
-      indexed-indirect-is caps D s m b T (render-is (s .progress .phase) (in-phase rooms s (meaning caps s (draw-indexed-indirect raw offset n)) e)) P raw offset n _ _ _
+      indexed-indirect-is caps D s m b T (render-is (s .progress .phase) (in-phase rooms s (meaning caps s (draw-indexed-indirect raw offset n)) e)) raw offset n _ _ _ P
   accepts (dispatch-workgroups x y z) e P = still (meaning caps s (dispatch-workgroups x y z) .commands) (idle-dispatch x y z) _ _ _
   accepts (dispatch-workgroups-indirect raw offset) e P = still (meaning caps s (dispatch-workgroups-indirect raw offset) .commands) (λ n. refl) _ _ _

@@ -5,7 +5,8 @@ use mathlib.Core.Bool.{Bool, true, false, cond, not, _&&_, _||_}
 use mathlib.Core.List.{List, [], _∷_, _++_, map}
 use mathlib.Core.Option.{Option, none, some}
 use lib.ListN.{take}
-use Rattle.mask.specs.Mask.{places}
+use Rattle.mask.specs.Mask.{testBit, places}
+use Rattle.mask.specs.Laws.{test-zero}
 use Rattle.names.specs.declared.gl.StencilState.{StencilState}
 use Rattle.records.specs.Check.{some?}
 use Rattle.records.specs.declared.binding.BindGroup.{BindGroup}
@@ -31,9 +32,10 @@ use Rattle.records.specs.declared.state.Phase.{Phase}
 use Rattle.records.specs.declared.state.Phase.the-variants.{Closed, Open, Render, Compute}
 use Rattle.records.specs.declared.state.Progress.{Progress}
 use Rattle.records.specs.declared.state.State.{State}
+use Rattle.records.specs.declared.state.VertexState.{VertexState}
 use Rattle.slots.specs.Vertex.{attributesOf}
 use Rattle.bindings.specs.Units.{numberAt, dirtyUnits, samplerCommands}
-use Rattle.bindings.specs.Group.{Entry, groupState, groupTextures, groupSamplers, bindGroupCommands, entryOutOfRange}
+use Rattle.bindings.specs.Group.{Entry, groupState, texturesNamed, samplersNamed, bindGroupCommands, entryOutOfRange}
 use Rattle.pipeline.specs.Inner.{innerBind, innerCommands, innerImmediates, changedUnits}
 use Rattle.pipeline.specs.Vertex.{unsetAttribute}
 use Rattle.pipeline.specs.Fixed.{stencilFuncs}
@@ -43,9 +45,11 @@ use Rattle.calls.specs.Parts.{withProgress, withVertex, withDraw, withFixed, wi
 use Rattle.calls.specs.Settings.{referenced, indexed}
 use Rattle.order.specs.Lists.{false-true, none-some}
 use Rattle.order.specs.View.{Viewport, FaceOps, Stencil}
-use Rattle.order.specs.Machine.{Stage, before, first, later, onward, Vertices, Bindings, Screen, Faces, Gl, Machine, withVertices, withBindings, withFixed as withGlFixed, putAttribute, putProgram, exec, play}
-use Rattle.order.specs.Found.{hasStencil, facesOf, only}
-use Rattle.order.specs.Book.{References, Bound, Book, withBound, withIndex, withPipeline, withScreen, inStage, namedFaces, enterGroup}
+use Rattle.order.specs.View.{Stage, before, first, later}
+use Rattle.order.specs.Machine.{onward, Vertices, Bindings, Screen, Faces, Gl, Machine, withVertices, withBindings, withFixed as withGlFixed, putAttribute, putProgram, exec, play}
+use Rattle.order.specs.Found.{facesOf}
+use Rattle.order.specs.Own.{stage-is, groupBound}
+use Rattle.order.specs.Book.{References, Bound, Book, withBound, withIndex, withPipeline, withScreen, inStage, nextStage, hasStencil, namedFaces}
 use Rattle.order.specs.Sweep.{play-append, folded, played}
 use Rattle.order.specs.Invariant.{First, Sane, ScreenTied, ResTied, SameFuncs, Stenciled, Slots, Piped, Early, Tied}
 use Rattle.order.specs.Idle.{Idle, idle-append, idle-when, idle-begin, idle-push, idle-pop, idle-timestamp, idle-attachments, idle-all-clears, idle-resolves, idle-invalidate, slots-start}
@@ -129,14 +133,14 @@ play-end p l m =
 module _ (caps : PrivateCapabilities) (D : ℕ → Bool) (s : State) (m : Machine) (b : Book) (T : Tied caps D s m b) where
   pub by-begin-render : (d : RenderPassDescriptor) (label : Label) (set : Lent) (at : ℕ) (pass : PassState) (n k l : ℕ)
       → Tied caps D (withProgress (counted Render n k l) (withPass pass s)) (play m (beginRenderCommands caps d label set at))
-      (inStage (onward (b .stage)) (withScreen (some (record { rect = extentRect (d .extent); depth = fullDepth })) (some (extentRect (d .extent))) (b .blend) b))
+      (inStage (nextStage (b .stage)) (withScreen (some (record { rect = extentRect (d .extent); depth = fullDepth })) (some (extentRect (d .extent))) (b .blend) b))
   by-begin-render d label set at pass n k l =
       subst
       (λ (x : Machine). Tied caps D (withProgress (counted Render n k l) (withPass pass s)) x
-      (inStage (onward (b .stage)) (withScreen (some (record { rect = extentRect (d .extent); depth = fullDepth })) (some (extentRect (d .extent))) (b .blend) b)))
+      (inStage (nextStage (b .stage)) (withScreen (some (record { rect = extentRect (d .extent); depth = fullDepth })) (some (extentRect (d .extent))) (b .blend) b)))
       (sym (play-begin caps d label set at m))
       (record {
-        stage = ap onward (T .stage);
+        stage = ap onward (T .stage) ∙ sym (stage-is (b .stage));
         sane = sane-on (b .stage);
         log = T .log;
         screen = record { viewport = refl; scissor = refl; blend = T .screen .blend };
@@ -146,6 +150,7 @@ module _ (caps : PrivateCapabilities) (D : ℕ → Bool) (s : State) (m : Machin
         lazy = T .lazy;
         early = λ e. absurd (not-early (b .stage) e);
         slots = λ f. let E = T .early (begins (b .stage) f) in slots-start caps D (s .vertex) (m .gl .vertices) (b .buffer) (E .vertex) (E .empty);
+        bare = λ f e i. let E = T .early (begins (b .stage) f) in ap (λ (v : VertexState). testBit (v .described) i) (E .vertex) ∙ test-zero i;
         piped = λ f p e. none-some (sym (T .early (begins (b .stage) f) .unset) ∙ e);
       })
 
@@ -164,26 +169,28 @@ module _ (caps : PrivateCapabilities) (D : ℕ → Bool) (s : State) (m : Machin
         lazy = record { bias = T .lazy .bias; alpha = T .lazy .alpha; clip = T .lazy .clip; targets = nothing (m .gl .fixed .target); primitive = λ ne. absurd (ne refl) };
         early = λ e. absurd (late (b .stage) (subst (λ (p : Phase). Sane p (b .stage)) ph (T .sane)) e);
         slots = λ f. absurd f;
+        bare = λ f. absurd f;
         piped = λ f. absurd f;
       })
 
   -- ---- bind groups
   pub by-bind-group : (xs : List Entry) (os : List ℕ) → some? entryOutOfRange xs ≡ false → (n k l : ℕ)
-      → Tied caps D (withProgress (counted (s .progress .phase) n k l) (withBind (groupState xs (s .bind)) s)) (play m (bindGroupCommands xs os (s .bind))) (withBound (enterGroup xs os (b .bound)) b)
+      → Tied caps D (withProgress (counted (s .progress .phase) n k l) (withBind (groupState xs (s .bind)) s)) (play m (bindGroupCommands xs os (s .bind))) (withBound (groupBound xs os (b .bound)) b)
   by-bind-group xs os ok n k l =
-      subst (λ (x : Machine). Tied caps D (withProgress (counted (s .progress .phase) n k l) (withBind (groupState xs (s .bind)) s)) x (withBound (enterGroup xs os (b .bound)) b))
+      subst (λ (x : Machine). Tied caps D (withProgress (counted (s .progress .phase) n k l) (withBind (groupState xs (s .bind)) s)) x (withBound (groupBound xs os (b .bound)) b))
       (sym (play-bind-group xs os (groupState xs (s .bind)) mask m))
       (record {
         stage = T .stage;
         sane = T .sane;
         log = T .log;
         screen = record { viewport = T .screen .viewport; scissor = T .screen .scissor; blend = T .screen .blend };
-        res = samplers-res (groupState xs (s .bind)) (places mask) (groupPlayed xs os (m .gl .bindings)) (enterGroup xs os (b .bound)) (b .index) (group-res xs os (m .gl .bindings) (b .bound) (b .index) (T .res));
+        res = samplers-res (groupState xs (s .bind)) (places mask) (groupPlayed xs os (m .gl .bindings)) (groupBound xs os (b .bound)) (b .index) (group-res xs os (m .gl .bindings) (b .bound) (b .index) (T .res));
         args = record { format = T .args .format; offset = T .args .offset };
         units = units-grouped xs os (s .bind) (m .gl .bindings) (b .bound) ok (T .units) (groupPlayed xs os (m .gl .bindings)) (group-samplers xs os (m .gl .bindings));
         lazy = T .lazy;
         early = T .early;
         slots = T .slots;
+        bare = T .bare;
         piped = λ f p e.
             let P = T .piped f p e in
             record {
@@ -197,7 +204,7 @@ module _ (caps : PrivateCapabilities) (D : ℕ → Bool) (s : State) (m : Machin
       })
     where
       mask : ℕ
-      mask = dirtyUnits (groupState xs (s .bind)) (groupTextures xs 0) (groupSamplers xs 0)
+      mask = dirtyUnits (groupState xs (s .bind)) (texturesNamed xs) (samplersNamed xs)
 
       R : Regrouped xs os (s .bind) (b .bound)
       R = regrouped xs os (s .bind) (b .bound) (T .units .samplers-long) (T .units .units-long) ok
@@ -220,6 +227,7 @@ module _ (caps : PrivateCapabilities) (D : ℕ → Bool) (s : State) (m : Machin
         lazy = record { bias = T .lazy .bias; alpha = T .lazy .alpha; clip = T .lazy .clip; targets = T .lazy .targets; primitive = T .lazy .primitive };
         early = T .early;
         slots = λ f. absurd (subst (λ (q : Phase). First q (b .stage)) ph f);
+        bare = λ f. absurd (subst (λ (q : Phase). First q (b .stage)) ph f);
         piped = λ f. absurd (subst (λ (q : Phase). First q (b .stage)) ph f);
       })
 
@@ -238,6 +246,7 @@ module _ (caps : PrivateCapabilities) (D : ℕ → Bool) (s : State) (m : Machin
         lazy = T .lazy;
         early = T .early;
         slots = T .slots;
+        bare = T .bare;
         piped = λ f p e.
             let P = T .piped f p e in
             record {
@@ -265,6 +274,7 @@ module _ (caps : PrivateCapabilities) (D : ℕ → Bool) (s : State) (m : Machin
         lazy = T .lazy;
         early = T .early;
         slots = T .slots;
+        bare = T .bare;
         piped = λ f p e.
             let P = T .piped f p e in
             record { drawn = P .drawn; set = P .set; stenciled = P .stenciled; numbered = P .numbered; fetched = P .fetched; describes = P .describes };
@@ -288,6 +298,7 @@ module _ (caps : PrivateCapabilities) (D : ℕ → Bool) (s : State) (m : Machin
         lazy = record { bias = T .lazy .bias; alpha = T .lazy .alpha; clip = T .lazy .clip; targets = T .lazy .targets; primitive = T .lazy .primitive };
         early = T .early;
         slots = T .slots;
+        bare = T .bare;
         piped = λ f p e.
             let P = T .piped f p e in
             record { drawn = P .drawn; set = P .set; stenciled = restenciled p (P .stenciled); numbered = P .numbered; fetched = P .fetched; describes = P .describes };
@@ -301,8 +312,8 @@ module _ (caps : PrivateCapabilities) (D : ℕ → Bool) (s : State) (m : Machin
           funcs stencil.None h = tt
           funcs (stencil.Some t) h = h
 
-          faces : (o : OptionStencilState) → SameFuncs (s .fixed .stencil) o → only (hasStencil o) (facesOf (m .gl .faces)) ≡ namedFaces (b .reference) o
-              → only (hasStencil o) (facesOf (withFuncs (referenced v (s .fixed .stencil)) m .gl .faces)) ≡ namedFaces (some (record { front = v; back = v })) o
+          faces : (o : OptionStencilState) → SameFuncs (s .fixed .stencil) o → cond (hasStencil o) (facesOf (m .gl .faces)) none ≡ namedFaces (b .reference) o
+              → cond (hasStencil o) (facesOf (withFuncs (referenced v (s .fixed .stencil)) m .gl .faces)) none ≡ namedFaces (some (record { front = v; back = v })) o
           faces stencil.None h e = refl
           faces (stencil.Some t) h e =
               let ff = h .0 .0 in

@@ -37,8 +37,8 @@ use Rattle.records.specs.declared.pipeline.OptionStencilState.the-variants as s
 use Rattle.records.specs.declared.pipeline.PrivateCapabilities.{PrivateCapabilities}
 use Rattle.records.specs.declared.pipeline.RenderPipeline.{RenderPipeline}
 use Rattle.slots.specs.Prepare.{bufferCommands, attributeCommands, sentOf}
-use Rattle.bindings.specs.Group.{zipped, groupCommands, groupState, groupTextures, groupSamplers, offsetMissing, groupOver}
-use Rattle.bindings.specs.Immediates.{bytesOf, immediateCommands, immediateBytes}
+use Rattle.bindings.specs.Group.{zipped, groupCommands, groupState, texturesNamed, samplersNamed, offsetsUsed, groupOver}
+use Rattle.bindings.specs.Immediates.{bytesOf, immediateCommands, immediateBytes, immediatesOver}
 use Rattle.bindings.specs.Units.{samplerCommands}
 use Rattle.pipeline.specs.Inner.{changedUnits}
 use Rattle.pipeline.specs.Fixed.{sameTargets, allSame, eachTarget}
@@ -295,8 +295,8 @@ cases =
 -- every row says what the definitions give
 pub all-cases : map seen cases ≡ map said cases
 unfolding all-accepted record-calls fed outcomeOf smallest some? badUnits among twice testBit bitAt setBit without maskOf placesFrom maskBy tabulate
-    clampTo convertTo ofBits round bufferCommands attributeCommands sentOf bytesOf immediateCommands immediateBytes samplerCommands changedUnits
-    zipped groupCommands groupState groupTextures groupSamplers offsetMissing groupOver
+    clampTo convertTo ofBits round bufferCommands attributeCommands sentOf bytesOf immediateCommands immediateBytes immediatesOver samplerCommands changedUnits
+    zipped groupCommands groupState texturesNamed samplersNamed offsetsUsed groupOver
     sameTargets allSame eachTarget beginRenderCommands attachColors resolvesFrom invalidations clearColors indirectCommands
 all-cases = refl
 

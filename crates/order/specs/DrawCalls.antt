@@ -4,6 +4,7 @@ use mathlib.Core.Path.{_≡_, refl, sym, ap, ap₂, _∙_, subst}
 use mathlib.Core.Bool.{Bool, true, false, cond, not, _&&_, _||_}
 use mathlib.Core.List.{List, [], _∷_, _++_, map, append-assoc, append-nil}
 use mathlib.Core.Option.{Option, none, some}
+use native.Mathlib.Omega.{arith}
 use Rattle.tables.specs.Tabulate.{tabulate}
 use Rattle.mask.specs.Mask.{testBit, places}
 use Rattle.records.specs.declared.command.AttributeDesc.{AttributeDesc}
@@ -19,41 +20,48 @@ use Rattle.slots.specs.Prepare.{rebound, bufferCommand, bufferCommands, attribu
 use Rattle.pipeline.specs.Vertex.{attributesIn}
 use Rattle.calls.specs.Draws.{DrawArgs}
 use Rattle.calls.specs.Parts.{withProgress, drawArgs, drawn}
-use Rattle.order.specs.Lists.{Each}
-use Rattle.order.specs.Machine.{Stage, before, first, later, Attribute, Vertices, Gl, Shot, Machine, withVertices, noted, shoot, exec, play}
+use Rattle.order.specs.Lists.{true-false, Each}
+use Rattle.order.specs.View.{Stage, before, first, later}
+use Rattle.order.specs.Machine.{Attribute, Vertices, Gl, Shot, Machine, withVertices, noted, shoot, exec, play}
 use Rattle.order.specs.Found.{viewOf}
 use Rattle.order.specs.View.{View}
-use Rattle.order.specs.Book.{Book, Entered, withDraws, entered, enterDraw, enterDraws, notedAll, names, argsOf}
+use Rattle.order.specs.Book.{Book, Entered, withDraws, entered, enterDraw, enterDraws, inFirst, names}
+use Rattle.order.specs.Premise.{Ready}
 use Rattle.order.specs.Sweep.{play-append, folded, played, unfolded}
-use Rattle.order.specs.Invariant.{First, Sane, Agree, attributeBuffer, sentAttribute, Slots, Fetched, Piped, Tied}
+use Rattle.order.specs.Invariant.{First, Sane, Agree, slotBuffer, attributeBuffer, sentAttribute, Slots, Fetched, Piped, Tied}
 use Rattle.order.specs.Prepared.{bufferAct, attributeAct, slot-after, attribute-kept, attributes-after}
-use Rattle.order.specs.Drawing.{Ready, Fresh, args-are, view-is}
+use Rattle.order.specs.Drawing.{Fresh, argsOf, args-are, view-is}
 use Rattle.order.specs.Keeps.{first-is, is-first, late}
 
 abbrev counted : Phase → ℕ → ℕ → ℕ → Progress
 counted ph n k l = record { phase = ph; commands = n; bytes = k; queries = l }
 
 -- ---- the logs
+abbrev notedAll : {A : Type 0} → Stage → List A → List A → List A
+notedAll before xs l = l
+notedAll first xs l = l ++ xs
+notedAll later xs l = l
+
 pub agree-append : (ss ss′ : List Shot) (ds ds′ : List Entered) → Agree ss ds → Agree ss′ ds′ → Agree (ss ++ ss′) (ds ++ ds′)
 agree-append [] ss′ [] ds′ a a′ = a′
 agree-append [] ss′ (d ∷ ds) ds′ a a′ = absurd a
 agree-append (s ∷ ss) ss′ [] ds′ a a′ = absurd a
 agree-append (s ∷ ss) ss′ (d ∷ ds) ds′ a a′ = (a .0, agree-append ss ss′ ds ds′ (a .1) a′)
 
-one-noted : (st : Stage) (s : Shot) (d : Entered) (ss : List Shot) (ds : List Entered) → Agree ss ds → (st ≡ first → viewOf (d .pipeline) s ≡ d .view) → Agree (noted st s ss) (noted st d ds)
+one-noted : (st : Stage) (s : Shot) (d : Entered) (ss : List Shot) (ds : List Entered) → Agree ss ds → (st ≡ first → viewOf (d .pipeline) s ≡ d .view) → Agree (noted st s ss) (inFirst st (d ∷ []) ds)
 one-noted before s d ss ds a h = a
 one-noted first s d ss ds a h = agree-append ss (s ∷ []) ds (d ∷ []) a (h refl, tt)
 one-noted later s d ss ds a h = a
 
-all-noted : (st : Stage) (xs : List Shot) (ys : List Entered) (ss : List Shot) (ds : List Entered) → Agree ss ds → (st ≡ first → Agree xs ys) → Agree (notedAll st xs ss) (notedAll st ys ds)
+all-noted : (st : Stage) (xs : List Shot) (ys : List Entered) (ss : List Shot) (ds : List Entered) → Agree ss ds → (st ≡ first → Agree xs ys) → Agree (notedAll st xs ss) (inFirst st ys ds)
 all-noted before xs ys ss ds a h = a
 all-noted first xs ys ss ds a h = agree-append ss xs ds ys a (h refl)
 all-noted later xs ys ss ds a h = a
 
-agree-table : (n : ℕ) (f : ℕ → Shot) (g : ℕ → Entered) → ((i : ℕ) → viewOf (g i .pipeline) (f i) ≡ g i .view) → Agree (tabulate n f) (tabulate n g)
+agree-table : (n : ℕ) (f : ℕ → Shot) (g : ℕ → Entered) → ((i : ℕ) → i < n → viewOf (g i .pipeline) (f i) ≡ g i .view) → Agree (tabulate n f) (tabulate n g)
 unfolding tabulate
 agree-table zero f g h = tt
-agree-table (suc n) f g h = (h 0, agree-table n (λ i. f (suc i)) (λ i. g (suc i)) (λ i. h (suc i)))
+agree-table (suc n) f g h = (h 0 (omega arith), agree-table n (λ i. f (suc i)) (λ i. g (suc i)) (λ i l. h (suc i) (omega arith)))
 
 -- ---- a run of draws, on the machine
 shotAll : Bool → ℕ → (ℕ → Command) → Machine → Machine
@@ -97,7 +105,7 @@ play-prepared caps v w m = go (caps .«vertex_buffer_layout»)
     go false = played (λ (m : Machine). m .gl .vertices) withVertices (attributeCommand v w) (attributeAct v w) (λ m. refl) (λ m g h. refl) (λ m g. refl) (λ m a. refl) (sent v w) m
 
 module _ (caps : PrivateCapabilities) (D : ℕ → Bool) (s : State) (m : Machine) (b : Book) (T : Tied caps D s m b) (ph : s .progress .phase ≡ Render)
-    (w : ℕ) (zero-with : caps .«fully_featured_instancing» ≡ true → w ≡ 0) (ready : b .stage ≡ first → Ready b) where
+    (w : ℕ) (zero-with : caps .«fully_featured_instancing» ≡ true → w ≡ 0) where
   abbrev v : VertexState
   v = s .vertex
 
@@ -161,15 +169,14 @@ module _ (caps : PrivateCapabilities) (D : ℕ → Bool) (s : State) (m : Machin
         lazy = T .lazy;
         early = λ e. absurd (late (b .stage) (subst (λ (p : Phase). Sane p (b .stage)) ph (T .sane)) e);
         slots = λ f.
-            let R = ready (in-first f) in
-            let P = T .piped f (R .pipeline) (R .is) in
             record {
               long = T .slots f .long;
               bound = T .slots f .bound;
               still = λ full. zero-with full;
               only = T .slots f .only;
-              clean = λ layout i l e d x. freshly (R .pipeline) f P .slots layout i l d x;
+              clean = λ layout i l e d x. cleaned f (b .pipeline) refl layout i l d x;
             };
+        bare = T .bare;
         piped = λ f p e.
             let P = T .piped f p e in
             record {
@@ -181,10 +188,16 @@ module _ (caps : PrivateCapabilities) (D : ℕ → Bool) (s : State) (m : Machin
               describes = P .describes;
             };
       }
+    where
+      -- by the pipeline; without one no slot is described
+      cleaned : First (s .progress .phase) (b .stage) → (o : Option RenderPipeline) → b .pipeline ≡ o → caps .«vertex_buffer_layout» ≡ true → (i : ℕ) → i < 16 → testBit (v .described) i ≡ true → testBit (v .bound) i ≡ true
+          → g′ .buffer i ≡ some (slotBuffer v w i)
+      cleaned f none q layout i l d x = true-false (sym d ∙ T .bare f q i)
+      cleaned f (some p) q layout i l d x = freshly p f (T .piped f p q) .slots layout i l d x
 
   -- the view of a draw whose command is made of the state's arguments
-  viewed : (indexed : Bool) (c : DrawArgs → Command) → b .stage ≡ first → viewOf (b .pipeline) (record { command = c (drawArgs (s .draw)); indexed = indexed; gl = withVertices g′ m .gl }) ≡ names b w indexed (c (argsOf b))
-  viewed indexed c st =
+  viewed : (b .stage ≡ first → Ready b) → (indexed : Bool) (c : DrawArgs → Command) → b .stage ≡ first → viewOf (b .pipeline) (record { command = c (drawArgs (s .draw)); indexed = indexed; gl = withVertices g′ m .gl }) ≡ names b w indexed (c (argsOf b))
+  viewed ready indexed c st =
       let R = ready st in
       let f : First (s .progress .phase) (b .stage) = subst (λ (q : Phase). First q (b .stage)) (sym ph) (is-first (b .stage) st) in
       let P = T .piped f (R .pipeline) (R .is) in
@@ -199,10 +212,10 @@ module _ (caps : PrivateCapabilities) (D : ℕ → Bool) (s : State) (m : Machin
       fresh′ F = record { slots = F .slots; attributes = F .attributes }
 
   -- ---- one draw
-  pub by-draw : (indexed : Bool) (c : DrawArgs → Command) → ((a : DrawArgs) (x : Machine) → exec x (c a) ≡ shoot indexed (c a) x) → (n k l : ℕ)
+  pub by-draw : (b .stage ≡ first → Ready b) → (indexed : Bool) (c : DrawArgs → Command) → ((a : DrawArgs) (x : Machine) → exec x (c a) ≡ shoot indexed (c a) x) → (n k l : ℕ)
       → Tied caps D (withProgress (counted (s .progress .phase) n k l) (drawn caps w s)) (play m (prepared caps v w ++ (c (drawArgs (s .draw)) ∷ []))) (enterDraw w indexed (c (argsOf b)) b)
   unfolding g′
-  by-draw indexed c shoots n k l =
+  by-draw ready indexed c shoots n k l =
       subst (λ (x : Machine). Tied caps D (withProgress (counted (s .progress .phase) n k l) (drawn caps w s)) x (enterDraw w indexed (c (argsOf b)) b))
       (sym (play-append m (prepared caps v w) (c (drawArgs (s .draw)) ∷ []) ∙ ap (λ (x : Machine). exec x (c (drawArgs (s .draw)))) (play-prepared′ m) ∙ shoots (drawArgs (s .draw)) (withVertices g′ m)))
       (let T′ = swept n k l in
@@ -211,7 +224,7 @@ module _ (caps : PrivateCapabilities) (D : ℕ → Bool) (s : State) (m : Machin
         sane = T′ .sane;
         log =
             subst (λ (st : Stage). Agree (noted st (record { command = c (drawArgs (s .draw)); indexed = indexed; gl = withVertices g′ m .gl }) (m .shots)) (enterDraw w indexed (c (argsOf b)) b .draws)) (sym (T .stage))
-            (one-noted (b .stage) (record { command = c (drawArgs (s .draw)); indexed = indexed; gl = withVertices g′ m .gl }) (entered b (names b w indexed (c (argsOf b)))) (m .shots) (b .draws) (T .log) (viewed indexed c));
+            (one-noted (b .stage) (record { command = c (drawArgs (s .draw)); indexed = indexed; gl = withVertices g′ m .gl }) (entered b (names b w indexed (c (argsOf b)))) (m .shots) (b .draws) (T .log) (viewed ready indexed c));
         screen = record { viewport = T .screen .viewport; scissor = T .screen .scissor; blend = T .screen .blend };
         res = T′ .res;
         args = record { format = T .args .format; offset = T .args .offset };
@@ -219,6 +232,7 @@ module _ (caps : PrivateCapabilities) (D : ℕ → Bool) (s : State) (m : Machin
         lazy = T′ .lazy;
         early = T′ .early;
         slots = T′ .slots;
+        bare = T′ .bare;
         piped = T′ .piped;
       })
     where
@@ -226,24 +240,24 @@ module _ (caps : PrivateCapabilities) (D : ℕ → Bool) (s : State) (m : Machin
       play-prepared′ x = play-prepared caps v w x
 
 -- ---- indirect draws: working instance 0
-module _ (caps : PrivateCapabilities) (D : ℕ → Bool) (s : State) (m : Machine) (b : Book) (T : Tied caps D s m b) (ph : s .progress .phase ≡ Render) (ready : b .stage ≡ first → Ready b) where
-  pub by-indirect : (indexed : Bool) (c : DrawArgs → ℕ → Command) (count : ℕ) → ((a : DrawArgs) (i : ℕ) (x : Machine) → exec x (c a i) ≡ shoot indexed (c a i) x) → (n k l : ℕ)
+module _ (caps : PrivateCapabilities) (D : ℕ → Bool) (s : State) (m : Machine) (b : Book) (T : Tied caps D s m b) (ph : s .progress .phase ≡ Render) where
+  pub by-indirect : (indexed : Bool) (c : DrawArgs → ℕ → Command) (count : ℕ) → (b .stage ≡ first → 0 < count → Ready b) → ((a : DrawArgs) (i : ℕ) (x : Machine) → exec x (c a i) ≡ shoot indexed (c a i) x) → (n k l : ℕ)
       → Tied caps D (withProgress (counted (s .progress .phase) n k l) (drawn caps 0 s)) (play m (prepared caps (s .vertex) 0 ++ tabulate count (c (drawArgs (s .draw))))) (enterDraws indexed (c (argsOf b)) count b)
   unfolding shotAll g′
-  by-indirect indexed c count shoots n k l =
+  by-indirect indexed c count ready shoots n k l =
       subst (λ (x : Machine). Tied caps D (withProgress (counted (s .progress .phase) n k l) (drawn caps 0 s)) x (enterDraws indexed (c (argsOf b)) count b))
       (sym
       (play-append m (prepared caps (s .vertex) 0) (tabulate count (c (drawArgs (s .draw))))
       ∙ ap (λ (x : Machine). play x (tabulate count (c (drawArgs (s .draw))))) (play-prepared caps (s .vertex) 0 m)
       ∙ play-shots indexed count (c (drawArgs (s .draw))) (shoots (drawArgs (s .draw))) (withVertices (preparedPlayed caps (s .vertex) 0 (m .gl .vertices)) m)))
-      (let T′ = swept caps D s m b T ph 0 (λ f. refl) ready n k l in
+      (let T′ = swept caps D s m b T ph 0 (λ f. refl) n k l in
       record {
         stage = T′ .stage;
         sane = T′ .sane;
         log =
             subst (λ (st : Stage). Agree (notedAll st (tabulate count shot) (m .shots)) (enterDraws indexed (c (argsOf b)) count b .draws)) (sym (T .stage))
             (all-noted (b .stage) (tabulate count shot) (tabulate count entry) (m .shots) (b .draws) (T .log)
-            (λ st. agree-table count shot entry (λ i. viewed caps D s m b T ph 0 (λ f. refl) ready indexed (λ a. c a i) st)));
+            (λ st. agree-table count shot entry (λ i h. viewed caps D s m b T ph 0 (λ f. refl) (λ x. ready x (omega arith)) indexed (λ a. c a i) st)));
         screen = record { viewport = T .screen .viewport; scissor = T .screen .scissor; blend = T .screen .blend };
         res = T′ .res;
         args = record { format = T .args .format; offset = T .args .offset };
@@ -251,6 +265,7 @@ module _ (caps : PrivateCapabilities) (D : ℕ → Bool) (s : State) (m : Machin
         lazy = T′ .lazy;
         early = T′ .early;
         slots = T′ .slots;
+        bare = T′ .bare;
         piped = T′ .piped;
       })
     where

@@ -6,13 +6,13 @@ use mathlib.Core.List.{List, [], _∷_, map}
 use mathlib.Core.Option.{Option, none, some}
 use native.Mathlib.Nat.{add-assoc}
 use native.Mathlib.Omega.{arith}
-use lib.Dec.{leb}
+use lib.Dec.{leb, ltb}
+use lib.IntN.{pos}
 use lib.ListN.{length, getD}
 use borrow.Author.Tests.{leb-false}
 use Rattle.tables.specs.Tabulate.{tabulate, alike}
 use Rattle.mask.specs.Mask.{testBit, places}
 use Rattle.names.specs.Maps.{primitiveTopology, primitiveState}
-use Rattle.records.specs.Start.{startDepthBias}
 use Rattle.records.specs.Check.{some?, badDescriptor}
 use Rattle.records.specs.declared.command.AttributeDesc.{AttributeDesc}
 use Rattle.records.specs.declared.command.BufferBinding.{BufferBinding}
@@ -39,16 +39,16 @@ use Rattle.calls.specs.Parts.{drawArgs}
 use Rattle.order.specs.Lists.{false-true, or-left, or-right, Each, each-map, each-not}
 use Rattle.order.specs.View.{Source, Fetch, View}
 use Rattle.order.specs.Machine.{Attribute, VertexBuffer, Vertices, Gl, Shot}
-use Rattle.order.specs.Found.{fetchOf, fetchAt, attributesBy, targetsBy, depthBy, stencilBy, facesOf, only, viewOf}
-use Rattle.order.specs.Book.{References, Bound, Book, namedSource, descBy, namedFetch, namedSampler, numberBy, by, byOr, depthNamed, stencilNamed, names, argsOf}
+use Rattle.order.specs.Found.{fetchOf, fetchAt, attributesBy, targetsBy, flagAt, where?, facesOf, viewOf}
+use Rattle.order.specs.Book.{References, Bound, Book, ifInstance, namedSource, descBy, namedFetch, namedSampler, numberBy, by, byOr, hasDepth, hasStencil, namedDepth, depthNamed, stencilNamed, names, topologyBy, locationBy}
+use Rattle.order.specs.Premise.{Ready}
+use Rattle.order.specs.Own.{describes-is, known-is, described-is, stepped-is, depth-flag, stencil-flag}
 use Rattle.order.specs.Invariant.{slotBuffer, attributeBuffer, sentAttribute, ScreenTied, ResTied, ArgsTied, Units, Slots, Drawn, Set, Stenciled, Numbered, Fetched, Piped}
 use Rattle.order.specs.Prepared.{desc-some, binding-some, Ranged, ranged-each, described-each}
 
--- document 01's first premise, at a draw: the book has a pipeline, and a buffer for each slot that this describes
-pub record Ready (b : Book) : Type 0 where
-  pub pipeline : RenderPipeline
-  pub is : b .pipeline ≡ some pipeline
-  pub bound : (i : ℕ) → i < 16 → has (pipeDesc pipeline i) ≡ true → has (b .buffer i) ≡ true
+-- document 01's first premise, by the recorder's descriptions
+pub buffers-known : (b : Book) (R : Ready b) (i : ℕ) → i < 16 → has (pipeDesc (R .pipeline) i) ≡ true → has (b .buffer i) ≡ true
+buffers-known b R i l h = sym (known-is (b .buffer i)) ∙ R .bound i l (described-is (R .pipeline) i ∙ h)
 
 -- every slot, or attribute, that the pipeline reads holds what the state says at the working instance w
 pub record Fresh (caps : PrivateCapabilities) (v : VertexState) (g : Vertices) (p : RenderPipeline) (w : ℕ) : Type 0 where
@@ -71,9 +71,11 @@ module _ (caps : PrivateCapabilities) (D : ℕ → Bool) (v : VertexState) (g : 
       })
   named-at a l h =
       let i = a .«buffer_index» in
-      let d = ap (λ (o : Option RenderPipeline). descBy o i) e ∙ desc-some v i (pipeDesc p i) (F .kept i l h) h .1 in
+      let d = ap (λ (o : Option RenderPipeline). descBy o i) e ∙ describes-is p i ∙ desc-some v i (pipeDesc p i) (F .kept i l h) h .1 in
       let x = binding-some v i (b .buffer i) (S .bound i l) (bound i l h) .1 in
-      λ j. some (record { location = a .location; format = a .«format_desc»; slot = i; source = namedSource w (a .offset) (d j) (x j) })
+      let n = stepped-is (slotDesc v i .step) w (slotAt v i .stride) in
+      (λ j. some (record { location = a .location; format = a .«format_desc»; slot = i; source = namedSource w (a .offset) (d j) (x j) }))
+      ∙ (λ j. some (record { location = a .location; format = a .«format_desc»; slot = i; source = some (record { buffer = slotAt v i .raw; stride = slotDesc v i .stride; step = slotDesc v i .step; first = a .offset + slotAt v i .offset + n j }) }))
 
   bound-at : (i : ℕ) → i < 16 → has (pipeDesc p i) ≡ true → testBit (v .bound) i ≡ true
   bound-at i l h = binding-some v i (b .buffer i) (S .bound i l) (bound i l h) .0
@@ -118,11 +120,11 @@ module _ (caps : PrivateCapabilities) (D : ℕ → Bool) (v : VertexState) (g : 
       go true t = layouts t (attributesIn p) (ranged-each p (F .ranged)) (described-each p (F .described)) (F .sent t)
       go false t = owns (attributesIn p) (ranged-each p (F .ranged)) (described-each p (F .described)) (R .attributes t)
 
-  pub fetches-are : map (λ (a : AttributeDesc). fetchAt g (a .location)) (attributesBy (b .pipeline)) ≡ map (namedFetch b w) (attributesBy (b .pipeline))
+  pub fetches-are : map (λ (a : AttributeDesc). fetchAt g (a .location)) (attributesBy (b .pipeline)) ≡ map (namedFetch b w) (byOr [] attributesIn (b .pipeline))
   fetches-are =
       ap (λ (o : Option RenderPipeline). map (λ (a : AttributeDesc). fetchAt g (a .location)) (attributesBy o)) e
       ∙ each-map (λ (a : AttributeDesc). fetchAt g (a .location)) (namedFetch b w) (attributesIn p) fetches-each
-      ∙ sym (ap (λ (o : Option RenderPipeline). map (namedFetch b w) (attributesBy o)) e)
+      ∙ sym (ap (λ (o : Option RenderPipeline). map (namedFetch b w) (byOr [] attributesIn o)) e)
 
 -- ---- samplers
 each-at : {A : Type 0} (P : A → Type 0) (l : List A) (d : A) (u : ℕ) → Each P l → P d → P (getD l u d)
@@ -145,10 +147,13 @@ samplers-are x g b p e U N =
     held (Some k) q = U .same k (leb-false 16 k q)
 
 -- ---- the draw's own command
+abbrev pub argsOf : Book → DrawArgs
+argsOf b = record { topology = topologyBy (b .pipeline); location = locationBy (b .pipeline); format = b .format; offset = b .offset }
+
 pub args-are : (s : State) (b : Book) (p : RenderPipeline) → b .pipeline ≡ some p → ArgsTied (s .draw) b → Drawn (s .draw) p → drawArgs (s .draw) ≡ argsOf b
 args-are s b p e A W =
-    let t = W .topology ∙ sym (ap (byOr 0 (λ (p : RenderPipeline). primitiveTopology (p .topology))) e) in
-    let l = W .location ∙ sym (ap (byOr None (λ (p : RenderPipeline). p .inner .«first_instance_location»)) e) in
+    let t = W .topology ∙ sym (ap topologyBy e) in
+    let l = W .location ∙ sym (ap locationBy e) in
     let f = A .format in
     let o = A .offset in
     λ j. record { topology = t j; location = l j; format = f j; offset = o j }
@@ -162,23 +167,26 @@ view-is caps D s g b R w indexed c Sc Re U S P F =
     let p = R .pipeline in
     let e = R .is in
     let program = P .set .program ∙ sym (ap (by (λ (p : RenderPipeline). p .inner .program)) e) in
-    let fetches = fetches-are caps D (s .vertex) (g .vertices) b p w e (R .bound) S (P .fetched) F in
+    let fetches = fetches-are caps D (s .vertex) (g .vertices) b p w e (buffers-known b R) S (P .fetched) F in
     let buffers = Re .buffers in
     let textures = Re .textures in
     let images = Re .images in
     let samplers = samplers-are (s .bind) (g .bindings .samplers) b p e U (P .numbered) in
-    let index = ap (only indexed) (Re .index) in
+    let index = ap (λ (o : Option ℕ). cond indexed o none) (Re .index) in
     let viewport = Sc .viewport in
     let scissor = Sc .scissor in
     let blend = Sc .blend in
     let primitive = P .set .primitive ∙ sym (ap (by (λ (p : RenderPipeline). primitiveState (p .primitive))) e) in
-    let bias = P .set .bias ∙ sym (ap (byOr startDepthBias (λ (p : RenderPipeline). p .«depth_bias»)) e) in
+    let bias = P .set .bias ∙ sym (ap (byOr (record { constant = pos 0; «slope_scale» = 0; clamp = 0 }) (λ (p : RenderPipeline). p .«depth_bias»)) e) in
     let alpha = P .set .alpha ∙ sym (ap (byOr false (λ (p : RenderPipeline). p .«alpha_to_coverage_enabled»)) e) in
     let targets = ap (λ (o : Option RenderPipeline). tabulate (targetsBy o) (g .fixed .target)) e ∙ P .set .targets ∙ sym (ap (byOr [] targetsIn) e) in
-    let clip = P .set .clip ∙ sym (ap (byOr 0 (λ (p : RenderPipeline). p .inner .«clip_distance_count»)) e) in
-    let aspects = P .set .aspects ∙ sym (ap (by aspectsOf) e) in
-    let depth = ap (λ (o : Option RenderPipeline). only (depthBy o) (g .fixed .depth)) e ∙ P .set .depth ∙ sym (ap depthNamed e) in
-    let stencil = ap (λ (o : Option RenderPipeline). only (stencilBy o) (facesOf (g .faces))) e ∙ P .stenciled .faces ∙ sym (ap (stencilNamed (b .reference)) e) in
+    let clip = P .set .clip ∙ sym (ap (byOr (λ i. false) (λ (p : RenderPipeline). λ i. ltb i (p .inner .«clip_distance_count»))) e) in
+    let deep : flagAt 1 (g .fixed .aspects) ≡ some (hasDepth (p .depth)) = ap (flagAt 1) (P .set .aspects) ∙ ap some (depth-flag (p .depth) (p .stencil)) in
+    let stenciled : flagAt 2 (g .fixed .aspects) ≡ some (hasStencil (p .stencil)) = ap (flagAt 2) (P .set .aspects) ∙ ap some (stencil-flag (p .depth) (p .stencil)) in
+    let has-depth = deep ∙ sym (ap (by (λ (p : RenderPipeline). hasDepth (p .depth))) e) in
+    let has-stencil = stenciled ∙ sym (ap (by (λ (p : RenderPipeline). hasStencil (p .stencil))) e) in
+    let depth = ap (λ (t : Option Bool). where? t (g .fixed .depth)) deep ∙ P .set .depth ∙ sym (ap depthNamed e) in
+    let stencil = ap (λ (t : Option Bool). where? t (facesOf (g .faces))) stenciled ∙ P .stenciled .faces ∙ sym (ap (stencilNamed (b .reference)) e) in
     λ j.
     record {
       command = c;
@@ -197,7 +205,8 @@ view-is caps D s g b R w indexed c Sc Re U S P F =
       alpha = alpha j;
       targets = targets j;
       clip = clip j;
-      aspects = aspects j;
+      hasDepth = has-depth j;
+      hasStencil = has-stencil j;
       depth = depth j;
       stencil = stencil j;
     }

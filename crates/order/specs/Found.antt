@@ -3,21 +3,14 @@ use Prim.Native.Nat.{ℕ, _+_}
 use mathlib.Core.Bool.{Bool, true, false, cond}
 use mathlib.Core.List.{List, [], map}
 use mathlib.Core.Option.{Option, none, some}
-use lib.ListN.{length}
+use lib.ListN.{length, take}
 use Rattle.tables.specs.Tabulate.{tabulate}
+use Rattle.mask.specs.Mask.{testBit}
 use Rattle.records.specs.declared.command.AttributeDesc.{AttributeDesc}
-use Rattle.records.specs.declared.command.ColorTargetDesc.{ColorTargetDesc}
-use Rattle.records.specs.declared.command.DepthState.{DepthState}
 use Rattle.records.specs.declared.command.OptionU32.{OptionU32}
 use Rattle.records.specs.declared.command.OptionU32.the-variants.{None, Some}
 use Rattle.records.specs.declared.command.VertexBufferDesc.{VertexBufferDesc}
-use Rattle.records.specs.declared.pipeline.OptionDepthState.{OptionDepthState}
-use Rattle.records.specs.declared.pipeline.OptionDepthState.the-variants as depth
-use Rattle.records.specs.declared.pipeline.OptionStencilState.{OptionStencilState}
-use Rattle.records.specs.declared.pipeline.OptionStencilState.the-variants as stencil
 use Rattle.records.specs.declared.pipeline.RenderPipeline.{RenderPipeline}
-use Rattle.pipeline.specs.Vertex.{attributesIn}
-use Rattle.pipeline.specs.Fixed.{targetsIn}
 use Rattle.order.specs.View.{Source, Fetch, Stencil, View}
 use Rattle.order.specs.Machine.{Attribute, VertexBuffer, Vertices, Faces, Gl, Shot}
 
@@ -49,31 +42,20 @@ fetchAt v l = fetchOf l (v .buffer) (v .attribute l)
 -- ---- the pipeline's own places
 abbrev pub attributesBy : Option RenderPipeline → List AttributeDesc
 attributesBy none = []
-attributesBy (some p) = attributesIn p
+attributesBy (some p) = take (p .«vertex_attribute_count») (p .«vertex_attributes»)
 
 abbrev pub targetsBy : Option RenderPipeline → ℕ
 targetsBy none = 0
-targetsBy (some p) = length (targetsIn p)
+targetsBy (some p) = length (take (p .«color_target_count») (p .«color_targets»))
 
-abbrev pub hasDepth : OptionDepthState → Bool
-hasDepth depth.None = false
-hasDepth (depth.Some d) = true
+-- ---- depth and stencil: the last `ConfigureDepthStencil` has a bit for each, 1 of the depth and 2 of the stencil
+abbrev pub flagAt : ℕ → Option ℕ → Option Bool
+flagAt i none = none
+flagAt i (some aspects) = some (testBit aspects i)
 
-abbrev pub hasStencil : OptionStencilState → Bool
-hasStencil stencil.None = false
-hasStencil (stencil.Some s) = true
-
-abbrev pub depthBy : Option RenderPipeline → Bool
-depthBy none = false
-depthBy (some p) = hasDepth (p .depth)
-
-abbrev pub stencilBy : Option RenderPipeline → Bool
-stencilBy none = false
-stencilBy (some p) = hasStencil (p .stencil)
-
-abbrev pub only : {A : Type 0} → Bool → Option A → Option A
-only true x = x
-only false x = none
+abbrev pub where? : {A : Type 0} → Option Bool → Option A → Option A
+where? none x = none
+where? (some t) x = cond t x none
 
 abbrev pub facesOf : Faces → Option Stencil
 facesOf f = some (record { front = f .front; back = f .back; frontOps = f .frontOps; backOps = f .backOps })
@@ -89,7 +71,7 @@ viewOf p s =
       textures = s .gl .bindings .textures;
       images = s .gl .bindings .images;
       samplers = tabulate 16 (s .gl .bindings .samplers);
-      index = only (s .indexed) (s .gl .bindings .index);
+      index = cond (s .indexed) (s .gl .bindings .index) none;
       viewport = s .gl .screen .viewport;
       scissor = s .gl .screen .scissor;
       blend = s .gl .screen .blend;
@@ -98,7 +80,8 @@ viewOf p s =
       alpha = s .gl .fixed .alpha;
       targets = tabulate (targetsBy p) (s .gl .fixed .target);
       clip = s .gl .fixed .clip;
-      aspects = s .gl .fixed .aspects;
-      depth = only (depthBy p) (s .gl .fixed .depth);
-      stencil = only (stencilBy p) (facesOf (s .gl .faces));
+      hasDepth = flagAt 1 (s .gl .fixed .aspects);
+      hasStencil = flagAt 2 (s .gl .fixed .aspects);
+      depth = where? (flagAt 1 (s .gl .fixed .aspects)) (s .gl .fixed .depth);
+      stencil = where? (flagAt 2 (s .gl .fixed .aspects)) (facesOf (s .gl .faces));
     }

@@ -18,7 +18,8 @@ use Rattle.bindings.specs.Units.{numberAt, resolve, samplerCommands}
 use Rattle.bindings.specs.Group.{Entry, bufferTarget, offsetOf, entryCommands, offsetsAfter, groupCommands}
 use Rattle.order.specs.View.{BufferRange, TextureBinding}
 use Rattle.order.specs.Machine.{Bindings, Machine, withBindings, putRange, putTexture, putImage, exec, play}
-use Rattle.order.specs.Book.{Bound, enterEntry, enterGroup}
+use Rattle.order.specs.Book.{Bound}
+use Rattle.order.specs.Own.{entryBound, groupBound}
 use Rattle.order.specs.Sweep.{play-append, folded, played, unfolded}
 use Rattle.order.specs.UnitLaws.{samplerAct}
 use Rattle.order.specs.Invariant.{ResTied}
@@ -59,7 +60,7 @@ unfolding groupPlayed
 group-samplers [] os g = refl
 group-samplers (x ∷ xs) os g = group-samplers xs (offsetsAfter (x .layout) (x .raw) os) (entryPlayed (x .layout) (x .raw) os g) ∙ entry-samplers (x .layout) (x .raw) os g
 
-entry-res : (e : BindGroupLayoutEntry) (r : RawBinding) (os : List ℕ) (g : Bindings) (x : Bound) (i : Option ℕ) → ResTied g x i → ResTied (entryPlayed e r os g) (enterEntry e r os x) i
+entry-res : (e : BindGroupLayoutEntry) (r : RawBinding) (os : List ℕ) (g : Bindings) (x : Bound) (i : Option ℕ) → ResTied g x i → ResTied (entryPlayed e r os g) (entryBound e r os x) i
 entry-res e (content.Buffer raw offset size) os g x i T =
     record {
       buffers = ap (λ (f : ℕ → ℕ → Option BufferRange). upd f (bufferTarget (e .ty)) (upd (f (bufferTarget (e .ty))) (e .slot) (some (record { buffer = raw; offset = offsetOf e offset os; size = size })))) (T .buffers);
@@ -78,11 +79,11 @@ entry-res e (content.Image y) os g x i T =
     record { buffers = T .buffers; textures = T .textures; images = ap (λ (f : ℕ → Option ImageBinding). upd f (e .slot) (some y)) (T .images); index = T .index }
 entry-res e (content.Sampler k) os g x i T = record { buffers = T .buffers; textures = T .textures; images = T .images; index = T .index }
 
-pub group-res : (xs : List Entry) (os : List ℕ) (g : Bindings) (x : Bound) (i : Option ℕ) → ResTied g x i → ResTied (groupPlayed xs os g) (enterGroup xs os x) i
-unfolding groupPlayed enterGroup
+pub group-res : (xs : List Entry) (os : List ℕ) (g : Bindings) (x : Bound) (i : Option ℕ) → ResTied g x i → ResTied (groupPlayed xs os g) (groupBound xs os x) i
+unfolding groupPlayed groupBound
 group-res [] os g x i T = T
 group-res (y ∷ ys) os g x i T =
-    group-res ys (offsetsAfter (y .layout) (y .raw) os) (entryPlayed (y .layout) (y .raw) os g) (enterEntry (y .layout) (y .raw) os x) i (entry-res (y .layout) (y .raw) os g x i T)
+    group-res ys (offsetsAfter (y .layout) (y .raw) os) (entryPlayed (y .layout) (y .raw) os g) (entryBound (y .layout) (y .raw) os x) i (entry-res (y .layout) (y .raw) os g x i T)
 
 -- ---- the samplers that follow
 pub play-samplers : (b : BindState) (k : ℕ) (m : Machine) → play m (samplerCommands b k) ≡ withBindings (folded (samplerAct b) (places k) (m .gl .bindings)) m

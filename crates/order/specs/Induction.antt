@@ -25,7 +25,8 @@ use Rattle.order.specs.Book.{Entered, Book, empty, Fed, enter, enterFed,
 use Rattle.order.specs.Sweep.{play-append}
 use Rattle.order.specs.Invariant.{Agree, Tied}
 use Rattle.order.specs.Keeps.{started}
-use Rattle.order.specs.Accept.{Premise, resumed, accepts}
+use Rattle.order.specs.Premise.{Premise}
+use Rattle.order.specs.Accept.{resumed, accepts}
 use Rattle.order.specs.Run.{carried, Recording, record-call, record-calls, fed, Premises, begun}
 
 -- a call goes on with the list, or starts a new one
@@ -88,7 +89,7 @@ pub record Right (caps : PrivateCapabilities) (D : ℕ → Bool) (r : Recording)
   pub counted : length (r .list) ≡ r .state .progress .commands
   pub tied : Tied caps D (r .state) (play fresh (r .list)) b
 
-one-call : (caps : PrivateCapabilities) (rooms : Rooms) (D : ℕ → Bool) (r : Recording) (b : Book) (c : Call) → Right caps D r b → (carried caps rooms (r .state) c ≡ true → Premise caps D b c)
+pub one-call : (caps : PrivateCapabilities) (rooms : Rooms) (D : ℕ → Bool) (r : Recording) (b : Book) (c : Call) → Right caps D r b → (carried caps rooms (r .state) c ≡ true → Premise caps D b c)
     → Right caps D (record-call caps rooms r c) (enterFed caps b (record { call = c; accepted = carried caps rooms (r .state) c }))
 one-call caps rooms D r b c R P = go (carried caps rooms (r .state) c) refl
   where
@@ -141,9 +142,3 @@ found-is [] [] a = refl
 found-is [] (d ∷ ds) a = absurd a
 found-is (s ∷ ss) [] a = absurd a
 found-is (s ∷ ss) (d ∷ ds) a = ap₂ (λ (v : View) (vs : List View). v ∷ vs) (a .0) (found-is ss ds (a .1))
-
-pub found-same : (ss : List Shot) (ds : List Entered) (ss′ : List Shot) (ds′ : List Entered) → Agree ss ds → Agree ss′ ds′ → ds ≡ ds′ → (length ss ≡ length ss′) × (found ds ss ≡ found ds ss′)
-found-same ss ds ss′ ds′ a a′ e = (
-  as-many ss ds a ∙ ap length e ∙ sym (as-many ss′ ds′ a′),
-  found-is ss ds a ∙ ap (map (λ (d : Entered). d .view)) e ∙ sym (found-is ss′ ds′ a′) ∙ ap (λ (l : List Entered). found l ss′) (sym e),
-)

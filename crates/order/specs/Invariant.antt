@@ -2,10 +2,11 @@
 -- Each part takes only what it speaks of, so that a call which does not touch it hands its proof on.
 use Prim.Native.Nat.{ℕ, _+_, _<_}
 use mathlib.Core.Path.{_≡_}
-use mathlib.Core.Bool.{Bool, true, false}
+use mathlib.Core.Bool.{Bool, true, false, cond}
 use mathlib.Core.List.{List, [], _∷_, map}
 use mathlib.Core.Option.{Option, none, some}
 use lib.ListN.{length}
+use lib.Dec.{ltb}
 use Rattle.tables.specs.Tabulate.{tabulate}
 use Rattle.mask.specs.Mask.{testBit}
 use Rattle.names.specs.Maps.{primitiveTopology, primitiveState}
@@ -34,9 +35,10 @@ use Rattle.pipeline.specs.Inner.{mapAt, innerOutOfRange}
 use Rattle.pipeline.specs.Vertex.{pipeDesc, attributesIn, has, stepsByInstance, descOr, vertexOutOfRange, vertexAbsent, vertexTwice}
 use Rattle.pipeline.specs.Fixed.{aspectsOf, targetsIn, targetsOf}
 use Rattle.order.specs.View.{Viewport}
-use Rattle.order.specs.Machine.{Stage, before, first, later, Attribute, VertexBuffer, Vertices, Bindings, Screen, Fixed, Faces, Gl, Shot, Machine}
-use Rattle.order.specs.Found.{viewOf, hasDepth, hasStencil, facesOf, only}
-use Rattle.order.specs.Book.{References, Bound, Entered, Book, namedDepth, namedFaces}
+use Rattle.order.specs.View.{Stage, before, first, later}
+use Rattle.order.specs.Machine.{Attribute, VertexBuffer, Vertices, Bindings, Screen, Fixed, Faces, Gl, Shot, Machine}
+use Rattle.order.specs.Found.{viewOf, facesOf}
+use Rattle.order.specs.Book.{References, Bound, Entered, Book, hasDepth, hasStencil, namedDepth, namedFaces}
 use Rattle.order.specs.Lists.{Each}
 
 -- ---- the first render pass
@@ -92,7 +94,7 @@ pub record Units (x : BindState) (g held : ℕ → OptionU32) : Type 0 where
 pub record Lazy (f : FixedState) (g : Fixed) : Type 0 where
   pub bias : g .bias ≡ f .«depth_bias»
   pub alpha : g .alpha ≡ f .«alpha_to_coverage_enabled»
-  pub clip : g .clip ≡ f .«clip_distance_count»
+  pub clip : g .clip ≡ (λ i. ltb i (f .«clip_distance_count»))
   pub targets : tabulate (length (targetsOf f)) (g .target) ≡ targetsOf f
   -- the starting primitive, whose front face is 0, is no pipeline's
   pub primitive : (f .primitive .«front_face» ≡ 0 → ⊥) → g .primitive ≡ some (f .primitive)
@@ -132,10 +134,10 @@ pub record Set (g : Fixed) (p : RenderPipeline) : Type 0 where
   pub primitive : g .primitive ≡ some (primitiveState (p .primitive))
   pub bias : g .bias ≡ p .«depth_bias»
   pub alpha : g .alpha ≡ p .«alpha_to_coverage_enabled»
-  pub clip : g .clip ≡ p .inner .«clip_distance_count»
+  pub clip : g .clip ≡ (λ i. ltb i (p .inner .«clip_distance_count»))
   pub targets : tabulate (length (targetsIn p)) (g .target) ≡ targetsIn p
   pub aspects : g .aspects ≡ some (aspectsOf p)
-  pub depth : only (hasDepth (p .depth)) (g .depth) ≡ namedDepth (p .depth)
+  pub depth : cond (hasDepth (p .depth)) (g .depth) none ≡ namedDepth (p .depth)
 
 -- the state's stencil is the pipeline's but for the reference
 abbrev pub SameSide : StencilSide → StencilSide → Type 0
@@ -147,7 +149,7 @@ SameFuncs s (stencil.Some t) = SameSide (s .front) (t .front) × SameSide (s .ba
 
 pub record Stenciled (s : StencilState) (g : Faces) (r : Option References) (p : RenderPipeline) : Type 0 where
   pub funcs : SameFuncs s (p .stencil)
-  pub faces : only (hasStencil (p .stencil)) (facesOf g) ≡ namedFaces r (p .stencil)
+  pub faces : cond (hasStencil (p .stencil)) (facesOf g) none ≡ namedFaces r (p .stencil)
 
 pub record Numbered (x : BindState) (p : RenderPipeline) : Type 0 where
   pub number : (u : ℕ) → u < 16 → numberAt x u ≡ mapAt (p .inner) u
@@ -202,4 +204,6 @@ pub record Tied (caps : PrivateCapabilities) (D : ℕ → Bool) (s : State) (m :
   pub lazy : Lazy (s .fixed) (m .gl .fixed)
   pub early : b .stage ≡ before → Early (s .vertex) (b .pipeline) (b .buffer)
   pub slots : First (s .progress .phase) (b .stage) → Slots caps D (s .vertex) (m .gl .vertices) (b .buffer)
+  -- before its first pipeline no slot is described
+  pub bare : First (s .progress .phase) (b .stage) → b .pipeline ≡ none → (i : ℕ) → testBit (s .vertex .described) i ≡ false
   pub piped : First (s .progress .phase) (b .stage) → (p : RenderPipeline) → b .pipeline ≡ some p → Piped caps D s (m .gl) (b .reference) p

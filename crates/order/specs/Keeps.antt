@@ -1,5 +1,6 @@
 -- Each accepted call keeps the tie between state, machine and book. Assumes nothing.
-use Prim.Native.Nat.{ℕ, zero, suc, _+_, _*_, _<_}
+use Prim.Native.Nat.{ℕ, zero, suc, _+_, _*_, _<_, zero-le}
+use borrow.Author.Tests.{le-ltb}
 use mathlib.Core.Path.{_≡_, refl, sym, ap, ap₂, _∙_, subst}
 use mathlib.Core.Bool.{Bool, true, false, cond, not, _&&_, _||_}
 use mathlib.Core.List.{List, [], _∷_, _++_, map}
@@ -31,8 +32,9 @@ use Rattle.pass.specs.Marks.{Lent, Label}
 use Rattle.calls.specs.Parts.{withProgress, withPass, withImmediates}
 use Rattle.calls.specs.Meaning.{inClosed, inOpen, inRender, inCompute, inPass}
 use Rattle.order.specs.Lists.{false-true, true-false}
-use Rattle.order.specs.Machine.{Stage, before, first, later, onward, Machine, fresh, exec, play}
-use Rattle.order.specs.Book.{References, Book, empty}
+use Rattle.order.specs.View.{Stage, before, first, later}
+use Rattle.order.specs.Machine.{Machine, fresh, exec, play}
+use Rattle.order.specs.Book.{References, Book, empty, nextStage}
 use Rattle.order.specs.Invariant.{First, Sane, Agree, Slots, Piped, Early, Tied}
 use Rattle.order.specs.Idle.{Idle, slots-start}
 
@@ -70,17 +72,17 @@ pub is-first : (st : Stage) → st ≡ first → First Render st
 is-first st e = subst (λ (x : Stage). First Render x) (sym e) tt
 
 -- the first pass begins before any other
-pub begins : (st : Stage) → First Render (onward st) → st ≡ before
+pub begins : (st : Stage) → First Render (nextStage st) → st ≡ before
 begins before l = refl
 begins first l = absurd l
 begins later l = absurd l
 
-pub sane-on : (st : Stage) → Sane Render (onward st)
+pub sane-on : (st : Stage) → Sane Render (nextStage st)
 sane-on before = tt
 sane-on first = tt
 sane-on later = tt
 
-pub not-early : (st : Stage) → onward st ≡ before → ⊥
+pub not-early : (st : Stage) → nextStage st ≡ before → ⊥
 not-early before e = let z : _≡_ {A = ℕ} 0 1 = cc in omega arith
 not-early first e = let z : _≡_ {A = ℕ} 0 1 = cc in omega arith
 not-early later e = let z : _≡_ {A = ℕ} 0 1 = cc in omega arith
@@ -106,9 +108,10 @@ started caps D n k l =
       res = record { buffers = refl; textures = refl; images = refl; index = refl };
       args = record { format = refl; offset = refl };
       units = record { samplers-long = refl; units-long = refl; same = λ k l. none-set k; taken = λ u l. none-taken u };
-      lazy = record { bias = refl; alpha = refl; clip = refl; targets = no-targets; primitive = λ ne. absurd (ne refl) };
+      lazy = record { bias = refl; alpha = refl; clip = λ j i. sym (le-ltb i 0 zero-le) j; targets = no-targets; primitive = λ ne. absurd (ne refl) };
       early = λ e. record { vertex = refl; unset = refl; empty = λ i. refl };
       slots = λ l. absurd l;
+      bare = λ l. absurd l;
       piped = λ l. absurd l;
     }
   where
@@ -125,14 +128,14 @@ module _ (caps : PrivateCapabilities) (D : ℕ → Bool) (s : State) (m : Machin
   -- only the counts change
   pub recounted : (n k l : ℕ) → Tied caps D (withProgress (record { phase = s .progress .phase; commands = n; bytes = k; queries = l }) s) m b
   recounted n k l =
-      record { stage = T .stage; sane = T .sane; log = T .log; screen = T .screen; res = T .res; args = T .args; units = T .units; lazy = T .lazy; early = T .early; slots = T .slots; piped = λ f p e. let P = T .piped f p e in record { drawn = P .drawn; set = P .set; stenciled = P .stenciled; numbered = P .numbered; fetched = P .fetched; describes = P .describes } }
+      record { stage = T .stage; sane = T .sane; log = T .log; screen = T .screen; res = T .res; args = T .args; units = T .units; lazy = T .lazy; early = T .early; slots = T .slots; bare = T .bare; piped = λ f p e. let P = T .piped f p e in record { drawn = P .drawn; set = P .set; stenciled = P .stenciled; numbered = P .numbered; fetched = P .fetched; describes = P .describes } }
 
   -- a call whose commands set nothing and that changes only the parts that no draw finds
   pub idles : (cs : List Command) → Idle cs → (pass : PassState) (i : ImmediateState) (n k l : ℕ)
       → Tied caps D (withProgress (record { phase = s .progress .phase; commands = n; bytes = k; queries = l }) (withPass pass (withImmediates i s))) (play m cs) b
   idles cs h pass i n k l =
       subst (λ (x : Machine). Tied caps D (withProgress (record { phase = s .progress .phase; commands = n; bytes = k; queries = l }) (withPass pass (withImmediates i s))) x b) (sym (h m))
-      (record { stage = T .stage; sane = T .sane; log = T .log; screen = T .screen; res = T .res; args = T .args; units = T .units; lazy = T .lazy; early = T .early; slots = T .slots; piped = λ f p e. repiped (T .piped f p e) })
+      (record { stage = T .stage; sane = T .sane; log = T .log; screen = T .screen; res = T .res; args = T .args; units = T .units; lazy = T .lazy; early = T .early; slots = T .slots; bare = T .bare; piped = λ f p e. repiped (T .piped f p e) })
     where
       repiped : {r : Option References} {p : RenderPipeline} → Piped caps D s (m .gl) r p → Piped caps D (withProgress (record { phase = s .progress .phase; commands = n; bytes = k; queries = l }) (withPass pass (withImmediates i s))) (m .gl) r p
       repiped P = record { drawn = P .drawn; set = P .set; stenciled = P .stenciled; numbered = P .numbered; fetched = P .fetched; describes = P .describes }
@@ -153,5 +156,6 @@ module _ (caps : PrivateCapabilities) (D : ℕ → Bool) (s : State) (m : Machin
         lazy = T .lazy;
         early = T .early;
         slots = λ f. absurd (shut (b .stage) f);
+        bare = λ f. absurd (shut (b .stage) f);
         piped = λ f. absurd (shut (b .stage) f);
       })

@@ -2,6 +2,8 @@ pub mod View
 pub mod Machine
 pub mod Found
 pub mod Book
+pub mod Own
+pub mod Premise
 pub mod Lists
 pub mod Sweep
 pub mod Invariant
@@ -22,8 +24,15 @@ pub mod Run
 pub mod Induction
 pub mod Theorem
 pub mod Ran
+pub mod Pages
+pub mod Same
+pub mod Complete
+pub mod NotEmpty
 pub mod Samples
 pub mod Cases
 pub mod EdgeSamples
 pub mod Edges
+pub mod Readings
 pub mod Witness
+pub mod OnBoards
+pub mod Pair

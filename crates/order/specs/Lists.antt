@@ -115,17 +115,13 @@ each-not f [] e = tt
 each-not f (x ∷ xs) e = (or-left (f x) (some? f xs) e, each-not f xs (or-right (f x) (some? f xs) e))
 
 -- ---- attributes at different locations
-pub apart : (a : AttributeDesc) (l : List AttributeDesc) → a .location < 16 → twice (locations (a ∷ l)) ≡ false → among (a .location) (locations l) ≡ false
+pub apart : (a : AttributeDesc) (l : List AttributeDesc) → twice (locations (a ∷ l)) ≡ false → among (a .location) (locations l) ≡ false
 unfolding twice
-apart a l h e = go (ltb (a .location) 16) (lt-ltb (a .location) 16 h) (or-left (ltb (a .location) 16 && among (a .location) (locations l)) (twice (locations l)) e)
-  where
-    go : (t : Bool) → t ≡ true → t && among (a .location) (locations l) ≡ false → among (a .location) (locations l) ≡ false
-    go true p q = q
-    go false p q = false-true p
+apart a l e = or-left (among (a .location) (locations l)) (twice (locations l)) e
 
 pub apart-rest : (a : AttributeDesc) (l : List AttributeDesc) → twice (locations (a ∷ l)) ≡ false → twice (locations l) ≡ false
 unfolding twice
-apart-rest a l e = or-right (ltb (a .location) 16 && among (a .location) (locations l)) (twice (locations l)) e
+apart-rest a l e = or-right (among (a .location) (locations l)) (twice (locations l)) e
 
 -- each of a list stands at another location than x
 pub elsewhere : (x : ℕ) (l : List AttributeDesc) → among x (locations l) ≡ false → Each (λ (a : AttributeDesc). a .location ≡ x → ⊥) l

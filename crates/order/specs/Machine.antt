@@ -1,15 +1,14 @@
 -- The GL machine: document 01, "The command list": "On a fresh machine nothing is bound ...". "A setting command overwrites the thing it names, other commands nothing". Definitions only.
--- It knows nothing of the recorder: it plays commands.
+-- It knows commands and OpenGL ES, and nothing of the recorder.
 use Prim.Native.Nat.{ℕ, zero, suc, _+_}
-use mathlib.Core.Bool.{Bool, true, false, cond}
+use mathlib.Core.Bool.{Bool, true, false, cond, not, _&&_, _||_}
 use mathlib.Core.List.{List, [], _∷_, _++_, map}
 use mathlib.Core.Option.{Option, none, some}
-use lib.Dec.{eqb}
+use lib.Dec.{eqb, ltb}
+use lib.IntN.{pos}
 use lib.Ieee.{binary32, ofBits}
 use Rattle.tables.specs.Tabulate.{tabulate, upd}
-use Rattle.names.specs.Gl.{FRONT, BACK}
 use Rattle.names.specs.declared.gl.PrimitiveState.{PrimitiveState}
-use Rattle.records.specs.Start.{startTarget, startDepthBias}
 use Rattle.records.specs.declared.command.Command.{Command}
 use Rattle.records.specs.declared.command.Command.the-variants.{Draw, DrawIndexed, DrawIndirect, DrawIndexedIndirect, Dispatch, DispatchIndirect, ClearBuffer, CopyBufferToBuffer, SetIndexBuffer, BeginQuery, EndQuery, TimestampQuery, CopyQueryResults, ResetFramebuffer, BindAttachment, ResolveAttachment, InvalidateAttachments, SetDrawColorBuffers, ClearColorF, ClearColorU, ClearColorI, ClearDepth, ClearStencil, ClearDepthAndStencil, BufferBarrier, TextureBarrier, SetViewport, SetScissor, SetStencilFunc, SetStencilOps, SetDepth, SetDepthBias, ConfigureDepthStencil, SetAlphaToCoverage, SetVertexAttribute, UnsetVertexAttribute, SetVertexBuffer, SetProgram, SetPrimitive, SetBlendConstant, SetColorTarget, BindBuffer, BindSampler, BindTexture, BindImage, PushDebugGroup, PopDebugGroup, SetImmediates, SetClipDistances}
 use Rattle.records.specs.declared.command.AttributeDesc.{AttributeDesc}
@@ -19,16 +18,14 @@ use Rattle.records.specs.declared.command.ColorTargetDesc.{ColorTargetDesc}
 use Rattle.records.specs.declared.command.DepthBiasState.{DepthBiasState}
 use Rattle.records.specs.declared.command.DepthState.{DepthState}
 use Rattle.records.specs.declared.command.ImageBinding.{ImageBinding}
+use Rattle.records.specs.declared.command.OptionBlend.the-variants as blend
 use Rattle.records.specs.declared.command.OptionU32.{OptionU32}
 use Rattle.records.specs.declared.command.OptionU32.the-variants.{None, Some}
 use Rattle.records.specs.declared.command.RectI32.{RectI32}
 use Rattle.records.specs.declared.command.VertexBufferDesc.{VertexBufferDesc}
-use Rattle.order.specs.View.{BufferRange, TextureBinding, Viewport, StencilFunc, FaceOps}
+use Rattle.order.specs.View.{Stage, before, first, later, BufferRange, TextureBinding, Viewport, StencilFunc, FaceOps}
 
--- which render pass: none yet, the first, a later one
-pub data Stage : Type 0 where
-  before first later : Stage
-
+-- a `ResetFramebuffer` begins a render pass
 abbrev pub onward : Stage → Stage
 onward before = first
 onward first = later
@@ -71,7 +68,7 @@ pub record Fixed : Type 0 where
   pub bias : DepthBiasState
   pub alpha : Bool
   pub target : ℕ → ColorTargetDesc
-  pub clip : ℕ
+  pub clip : ℕ → Bool
   pub aspects : Option ℕ
   pub depth : Option DepthState
 
@@ -102,17 +99,29 @@ pub record Machine : Type 0 where
   pub gl : Gl
   pub shots : List Shot
 
-abbrev pub noColor : ColorF32
-noColor = record { r = ofBits binary32 0; g = ofBits binary32 0; b = ofBits binary32 0; a = ofBits binary32 0 }
-
 -- "nothing is bound, bias and blend constants are zero, colour targets are 15 without blend, alpha to coverage is off, and no clip distance is on"
 abbrev pub freshGl : Gl
 freshGl =
     record {
       vertices = record { attribute = λ l. none; buffer = λ i. none };
       bindings = record { buffers = λ t i. none; textures = λ i. none; images = λ i. none; samplers = λ u. None; index = none };
-      screen = record { viewport = none; scissor = none; blend = noColor };
-      fixed = record { program = none; primitive = none; bias = startDepthBias; alpha = false; target = λ i. startTarget; clip = 0; aspects = none; depth = none };
+      screen =
+          record {
+            viewport = none;
+            scissor = none;
+            blend = record { r = ofBits binary32 0; g = ofBits binary32 0; b = ofBits binary32 0; a = ofBits binary32 0 };
+          };
+      fixed =
+          record {
+            program = none;
+            primitive = none;
+            bias = record { constant = pos 0; «slope_scale» = 0; clamp = 0 };
+            alpha = false;
+            target = λ i. record { mask = 15; blend = blend.None };
+            clip = λ i. false;
+            aspects = none;
+            depth = none;
+          };
       faces = record { front = none; back = none; frontOps = none; backOps = none };
     }
 
@@ -174,8 +183,15 @@ abbrev pub putTarget : OptionU32 → ColorTargetDesc → Fixed → Fixed
 putTarget None t f = record { program = f .program; primitive = f .primitive; bias = f .bias; alpha = f .alpha; target = λ i. t; clip = f .clip; aspects = f .aspects; depth = f .depth }
 putTarget (Some i) t f = record { program = f .program; primitive = f .primitive; bias = f .bias; alpha = f .alpha; target = upd (f .target) i t; clip = f .clip; aspects = f .aspects; depth = f .depth }
 
-abbrev pub putClip : ℕ → Fixed → Fixed
-putClip n f = record { program = f .program; primitive = f .primitive; bias = f .bias; alpha = f .alpha; target = f .target; clip = n; aspects = f .aspects; depth = f .depth }
+-- the clip distances [old, new) are turned on, [new, old) off, and others left
+abbrev pub between : ℕ → ℕ → ℕ → Bool
+between from to i = not (ltb i from) && ltb i to
+
+abbrev pub switched : ℕ → ℕ → (ℕ → Bool) → ℕ → Bool
+switched old new c i = cond (between old new i) true (cond (between new old i) false (c i))
+
+abbrev pub putClip : ℕ → ℕ → Fixed → Fixed
+putClip old n f = record { program = f .program; primitive = f .primitive; bias = f .bias; alpha = f .alpha; target = f .target; clip = switched old n (f .clip); aspects = f .aspects; depth = f .depth }
 
 abbrev pub putAspects : ℕ → Fixed → Fixed
 putAspects a f = record { program = f .program; primitive = f .primitive; bias = f .bias; alpha = f .alpha; target = f .target; clip = f .clip; aspects = some a; depth = f .depth }
@@ -183,15 +199,15 @@ putAspects a f = record { program = f .program; primitive = f .primitive; bias =
 abbrev pub putDepth : DepthState → Fixed → Fixed
 putDepth d f = record { program = f .program; primitive = f .primitive; bias = f .bias; alpha = f .alpha; target = f .target; clip = f .clip; aspects = f .aspects; depth = some d }
 
--- FRONT and BACK name one face, FRONT_AND_BACK both
+-- OpenGL ES 3.2, 15.1.2: FRONT (1028) and BACK (1029) name one face, FRONT_AND_BACK (1032) both, and no other number names one
 abbrev pub onFace : {A : Type 0} → ℕ → ℕ → A → Option A → Option A
-onFace other face x old = cond (eqb face other) old (some x)
+onFace own face x old = cond (eqb face own || eqb face 1032) (some x) old
 
 abbrev pub putFunc : ℕ → StencilFunc → Faces → Faces
-putFunc face x f = record { front = onFace BACK face x (f .front); back = onFace FRONT face x (f .back); frontOps = f .frontOps; backOps = f .backOps }
+putFunc face x f = record { front = onFace 1028 face x (f .front); back = onFace 1029 face x (f .back); frontOps = f .frontOps; backOps = f .backOps }
 
 abbrev pub putOps : ℕ → FaceOps → Faces → Faces
-putOps face x f = record { front = f .front; back = f .back; frontOps = onFace BACK face x (f .frontOps); backOps = onFace FRONT face x (f .backOps) }
+putOps face x f = record { front = f .front; back = f .back; frontOps = onFace 1028 face x (f .frontOps); backOps = onFace 1029 face x (f .backOps) }
 
 -- a draw is noted in the first render pass
 abbrev pub noted : {A : Type 0} → Stage → A → List A → List A
@@ -252,7 +268,7 @@ exec m (BindImage i x) = withBindings (putImage i x (m .gl .bindings)) m
 exec m (PushDebugGroup r) = m
 exec m PopDebugGroup = m
 exec m (SetImmediates d o) = m
-exec m (SetClipDistances old n) = withFixed (putClip n (m .gl .fixed)) m
+exec m (SetClipDistances old n) = withFixed (putClip old n (m .gl .fixed)) m
 
 abbrev pub play : Machine → List Command → Machine
 play m [] = m

@@ -6,7 +6,8 @@ use mathlib.Core.List.{List, [], _∷_, _++_}
 use mathlib.Core.Option.{Option, none, some}
 use native.Mathlib.Nat.{add-zero, add-suc, suc-add}
 use native.Mathlib.Omega.{arith}
-use lib.Dec.{eqb}
+use lib.Dec.{eqb, ltb}
+use borrow.Author.Tests.{eqb-true}
 use lib.ListN.{length}
 use Rattle.tables.specs.Tabulate.{tabulate, alike, upd, upd-same, upd-other}
 use Rattle.names.specs.Gl.{FRONT, BACK, FRONT-AND-BACK}
@@ -33,9 +34,9 @@ use Rattle.records.specs.declared.state.FixedState.{FixedState}
 use Rattle.pipeline.specs.Fixed.{only, stencilFunc, stencilFuncs, stencilOp, stencilOps, depthCommands, stencilCommands, aspectsOf, stencilOr, targetsIn, targetsOf, sameTargets, allSame, eachTarget, targetCommands, fixedCommands, pipelineFixed}
 use Rattle.order.specs.Lists.{false-true, true-false, and-left, and-right}
 use Rattle.order.specs.View.{StencilFunc, FaceOps}
-use Rattle.order.specs.Machine.{Fixed, Faces, Gl, Machine, withFixed, withFaces, exec, play}
-use Rattle.order.specs.Found.{facesOf, hasDepth, hasStencil, only as onlyWhere}
-use Rattle.order.specs.Book.{References, referenceOf, namedDepth, namedFaces}
+use Rattle.order.specs.Machine.{Fixed, Faces, Gl, Machine, switched, withFixed, withFaces, exec, play}
+use Rattle.order.specs.Found.{facesOf}
+use Rattle.order.specs.Book.{References, hasDepth, hasStencil, referenceOf, namedDepth, namedFaces}
 use Rattle.order.specs.Sweep.{play-append}
 use Rattle.order.specs.Invariant.{Lazy, Set, SameFuncs, Stenciled}
 
@@ -172,7 +173,7 @@ fixedAfter p f g =
       bias = cond (not (sameDepthBias (p .«depth_bias») (f .«depth_bias»))) (p .«depth_bias») (g .bias);
       alpha = cond (not (sameBool (p .«alpha_to_coverage_enabled») (f .«alpha_to_coverage_enabled»))) (p .«alpha_to_coverage_enabled») (g .alpha);
       target = cond (sameTargets (targetsOf f) (targetsIn p)) (g .target) (targetsPlayed (targetsIn p) (g .target));
-      clip = cond (not (eqb (p .inner .«clip_distance_count») (f .«clip_distance_count»))) (p .inner .«clip_distance_count») (g .clip);
+      clip = cond (not (eqb (p .inner .«clip_distance_count») (f .«clip_distance_count»))) (switched (f .«clip_distance_count») (p .inner .«clip_distance_count») (g .clip)) (g .clip);
       aspects = some (aspectsOf p);
       depth = depthAfter (p .depth) (g .depth);
     }
@@ -285,12 +286,12 @@ module _ (p : RenderPipeline) (f : FixedState) where
   runClip = only t5 (SetClipDistances (f .«clip_distance_count») (p .inner .«clip_distance_count»))
 
   abbrev toClip : Machine → Machine
-  toClip m = withFixed (record { program = m .gl .fixed .program; primitive = m .gl .fixed .primitive; bias = m .gl .fixed .bias; alpha = m .gl .fixed .alpha; target = m .gl .fixed .target; clip = cond t5 (p .inner .«clip_distance_count») (m .gl .fixed .clip); aspects = m .gl .fixed .aspects; depth = m .gl .fixed .depth }) m
+  toClip m = withFixed (record { program = m .gl .fixed .program; primitive = m .gl .fixed .primitive; bias = m .gl .fixed .bias; alpha = m .gl .fixed .alpha; target = m .gl .fixed .target; clip = cond t5 (switched (f .«clip_distance_count») (p .inner .«clip_distance_count») (m .gl .fixed .clip)) (m .gl .fixed .clip); aspects = m .gl .fixed .aspects; depth = m .gl .fixed .depth }) m
 
   byClip : (m : Machine) → play m runClip ≡ toClip m
   byClip m = go t5
     where
-      go : (t : Bool) → play m (only t (SetClipDistances (f .«clip_distance_count») (p .inner .«clip_distance_count»))) ≡ withFixed (record { program = m .gl .fixed .program; primitive = m .gl .fixed .primitive; bias = m .gl .fixed .bias; alpha = m .gl .fixed .alpha; target = m .gl .fixed .target; clip = cond t (p .inner .«clip_distance_count») (m .gl .fixed .clip); aspects = m .gl .fixed .aspects; depth = m .gl .fixed .depth }) m
+      go : (t : Bool) → play m (only t (SetClipDistances (f .«clip_distance_count») (p .inner .«clip_distance_count»))) ≡ withFixed (record { program = m .gl .fixed .program; primitive = m .gl .fixed .primitive; bias = m .gl .fixed .bias; alpha = m .gl .fixed .alpha; target = m .gl .fixed .target; clip = cond t (switched (f .«clip_distance_count») (p .inner .«clip_distance_count») (m .gl .fixed .clip)) (m .gl .fixed .clip); aspects = m .gl .fixed .aspects; depth = m .gl .fixed .depth }) m
       go true = refl
       go false = refl
 
@@ -384,8 +385,26 @@ module _ (p : RenderPipeline) (f : FixedState) where
   alpha-set : (g : Fixed) → Lazy f g → fixedAfter p f g .alpha ≡ p .«alpha_to_coverage_enabled»
   alpha-set g L = lazily sameBool flag (p .«alpha_to_coverage_enabled») (f .«alpha_to_coverage_enabled») (g .alpha) (L .alpha)
 
-  clip-set : (g : Fixed) → Lazy f g → fixedAfter p f g .clip ≡ p .inner .«clip_distance_count»
-  clip-set g L = lazily eqb number (p .inner .«clip_distance_count») (f .«clip_distance_count») (g .clip) (L .clip)
+  clip-set : (g : Fixed) → Lazy f g → fixedAfter p f g .clip ≡ (λ i. ltb i (p .inner .«clip_distance_count»))
+  clip-set g L = go (eqb (p .inner .«clip_distance_count») (f .«clip_distance_count»)) refl
+    where
+      old : ℕ
+      old = f .«clip_distance_count»
+
+      new : ℕ
+      new = p .inner .«clip_distance_count»
+
+      turned : (a b : Bool) → cond (not a && b) true (cond (not b && a) false a) ≡ b
+      turned true true = refl
+      turned true false = refl
+      turned false true = refl
+      turned false false = refl
+
+      go : (t : Bool) → eqb (p .inner .«clip_distance_count») (f .«clip_distance_count») ≡ t → cond (not t) (switched (f .«clip_distance_count») (p .inner .«clip_distance_count») (g .clip)) (g .clip) ≡ (λ i. ltb i (p .inner .«clip_distance_count»))
+      go true e = L .clip ∙ ap (λ (n : ℕ). λ i. ltb i n) (sym (eqb-true (p .inner .«clip_distance_count») (f .«clip_distance_count») e))
+      go false e =
+          ap (switched (f .«clip_distance_count») (p .inner .«clip_distance_count»)) (L .clip)
+          ∙ (λ j i. turned (ltb i (f .«clip_distance_count»)) (ltb i (p .inner .«clip_distance_count»)) j)
 
   targets-set : (g : Fixed) → Lazy f g → tabulate (length (targetsIn p)) (fixedAfter p f g .target) ≡ targetsIn p
   targets-set g L = go (sameTargets (targetsOf f) (targetsIn p)) refl
@@ -396,10 +415,10 @@ module _ (p : RenderPipeline) (f : FixedState) where
           ap (λ (l : List ColorTargetDesc). tabulate (length l) (g .target)) (sym q) ∙ L .targets ∙ q
       go false e = targets-table (targetsIn p) (g .target)
 
-  depth-set : (g : Fixed) → onlyWhere (hasDepth (p .depth)) (fixedAfter p f g .depth) ≡ namedDepth (p .depth)
+  depth-set : (g : Fixed) → cond (hasDepth (p .depth)) (fixedAfter p f g .depth) none ≡ namedDepth (p .depth)
   depth-set g = go (p .depth)
     where
-      go : (o : OptionDepthState) → onlyWhere (hasDepth o) (depthAfter o (g .depth)) ≡ namedDepth o
+      go : (o : OptionDepthState) → cond (hasDepth o) (depthAfter o (g .depth)) none ≡ namedDepth o
       go depth.None = refl
       go (depth.Some d) = refl
 
@@ -426,6 +445,6 @@ module _ (p : RenderPipeline) (f : FixedState) where
       funcs stencil.None = tt
       funcs (stencil.Some s) = ((refl, refl), (refl, refl))
 
-      faces : (o : OptionStencilState) → onlyWhere (hasStencil o) (facesOf (stencilAfter o g)) ≡ namedFaces (referenceOf o) o
+      faces : (o : OptionStencilState) → cond (hasStencil o) (facesOf (stencilAfter o g)) none ≡ namedFaces (referenceOf o) o
       faces stencil.None = refl
       faces (stencil.Some s) = refl

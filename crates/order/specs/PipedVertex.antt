@@ -31,7 +31,7 @@ use Rattle.order.specs.Lists.{false-true, true-false, or-left, or-right,
 use Rattle.order.specs.Machine.{Attribute, VertexBuffer, Vertices, putAttribute}
 use Rattle.order.specs.Sweep.{folded, unfolded, allSet}
 use Rattle.order.specs.Invariant.{slotBuffer, attributeBuffer, sentAttribute, Slots, Fetched, DescribesOn}
-use Rattle.order.specs.Prepared.{desc-some, Ranged, ranged-each, low-each}
+use Rattle.order.specs.Prepared.{desc-some, Ranged, ranged-each}
 
 -- the pipeline's description where it has one, and else the state's
 abbrev pub orOld : Option VertexBufferDesc → Option VertexBufferDesc → Option VertexBufferDesc
@@ -196,7 +196,7 @@ module _ (caps : PrivateCapabilities) (p : RenderPipeline) (v : VertexState) whe
   sent-after r t g =
       allSet setAct (λ (x : Vertices). x .attribute) (λ (a : AttributeDesc). some (sentAttribute p a))
       (λ a x. upd-same (x .attribute) (a .location) (some (sentAttribute p a))) (λ a x i ne. upd-other (x .attribute) (a .location) i (some (sentAttribute p a)) ne)
-      (attributesIn p) (low-each (attributesIn p) (ranged-each p r)) t g
+      (attributesIn p) t g
 
   pub fetched-piped : vertexOutOfRange p ≡ false → vertexAbsent p ≡ false → vertexTwice p ≡ false → (g g′ : Vertices)
       → (caps .«vertex_buffer_layout» ≡ true → g′ ≡ folded setAct (attributesIn p) g) → Fetched caps v′ g′ p

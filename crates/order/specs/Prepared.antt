@@ -113,10 +113,6 @@ ranged-each p e = more (attributesIn p) (each-not badAttribute (attributesIn p) 
     more [] h = tt
     more (a ∷ l) h = (one a (h .0), more l (h .1))
 
-pub low-each : (l : List AttributeDesc) → Each Ranged l → Each (λ (a : AttributeDesc). a .location < 16) l
-low-each [] h = tt
-low-each (a ∷ l) h = (h .0 .0, low-each l (h .1))
-
 pub described-each : (p : RenderPipeline) → vertexAbsent p ≡ false → Each (λ (a : AttributeDesc). has (pipeDesc p (a .«buffer_index»)) ≡ true) (attributesIn p)
 described-each p e = more (attributesIn p) (each-not (λ (a : AttributeDesc). not (has (pipeDesc p (a .«buffer_index»)))) (attributesIn p) e)
   where
@@ -215,7 +211,7 @@ module _ (caps : PrivateCapabilities) (v : VertexState) (g : Vertices) (p : Rend
         swept-each =
             subst (λ (l : List AttributeDesc). Each (λ (a : AttributeDesc). folded (attributeAct v w) (sentOf (rebound v w) l) g .attribute (a .location) ≡ cond (testBit (rebound v w) (a .«buffer_index»)) (some (attributeBuffer v w a)) (g .attribute (a .location))) (attributesIn p))
             (sym (F .held flat))
-            (sifted (attributeAct v w) (λ (x : Vertices). x .attribute) (λ (a : AttributeDesc). some (attributeBuffer v w a)) here other (rebound v w) (attributesIn p) (low-each (attributesIn p) (ranged-each p (F .ranged))) (F .apart) g)
+            (sifted (attributeAct v w) (λ (x : Vertices). x .attribute) (λ (a : AttributeDesc). some (attributeBuffer v w a)) here other (rebound v w) (attributesIn p) (F .apart) g)
 
         go : (l : List AttributeDesc) → Each Ranged l → Each (λ (a : AttributeDesc). has (pipeDesc p (a .«buffer_index»)) ≡ true) l
             → Each (λ (a : AttributeDesc). testBit (v .«dirty_vbuf_mask») (a .«buffer_index») ≡ false → testBit (v .bound) (a .«buffer_index») ≡ true → g .attribute (a .location) ≡ some (attributeBuffer v (v .«active_first_instance») a)) l

@@ -15,6 +15,8 @@ use Rattle.records.specs.Check.{overRoom}
 use Rattle.records.specs.declared.check.Rooms.{Rooms}
 use Rattle.records.specs.declared.command.Command.{Command}
 use Rattle.records.specs.declared.command.Record.{Record}
+use Rattle.records.specs.declared.outcome.Outcome.{Outcome}
+use Rattle.records.specs.declared.outcome.Outcome.the-variants.{Done, WrongPhase, TooMany, OutOfRange, Absent, WrongKind, Overflow, NoRoom}
 use Rattle.records.specs.declared.pipeline.PrivateCapabilities.{PrivateCapabilities}
 use Rattle.records.specs.declared.state.Answer.{Answer}
 use Rattle.records.specs.declared.state.Progress.{Progress}
@@ -37,6 +39,21 @@ use Rattle.order.specs.Theorem.{named}
 pub data Ran (caps : PrivateCapabilities) : State → Runs → List Call → State → Runs → Type 0 where
   done : {s : State} {r : Runs} → Ran caps s r [] s r
   then : {s s′ : State} {r r₁ r′ : Runs} {c : Call} {cs : List Call} (a : Answer) → Did caps s r c a r₁ → Ran caps (a .state) r₁ cs s′ r′ → Ran caps s r (c ∷ cs) s′ r′
+
+-- what the functions answered: each call of the run, and whether it came back with `Done`
+abbrev pub isDone : Outcome → Bool
+isDone Done = true
+isDone WrongPhase = false
+isDone TooMany = false
+isDone OutOfRange = false
+isDone Absent = false
+isDone WrongKind = false
+isDone Overflow = false
+isDone NoRoom = false
+
+unfoldable pub answers : {caps : PrivateCapabilities} {s s′ : State} {r r′ : Runs} {cs : List Call} → Ran caps s r cs s′ r′ → List Fed
+answers done = []
+answers (then {c = c} a d R) = record { call = c; accepted = isDone (a .outcome) } ∷ answers R
 
 -- the commands of the used part of the list
 abbrev pub commandsOf : State → Runs → List Command
@@ -249,40 +266,88 @@ one-did caps s r c W = go (carried caps (roomsOf r) s c) refl
         subst (λ (x : Runs). Left caps s r c s x) (sym (λ j. record { commands = a j; bytes = b j; queries = d j }))
         (record { rooms = refl; within = W; list = sym (ap (λ (t : Bool). cond t (take (q .after .progress .commands) (commandsOf s r) ++ q .commands) (commandsOf s r)) e) })
 
+-- what a call leaves that did what its contract says
+left-by : (caps : PrivateCapabilities) (s : State) (r r₁ : Runs) (c : Call) (a : Answer) → Did caps s r c a r₁ → Within s r → Left caps s r c (a .state) r₁
+left-by caps s r r₁ c a d W =
+    subst (λ (x : Runs). Left caps s r c (a .state) x) (sym (d .runs))
+    (subst (λ (x : State). Left caps s r c x (runsAfter s (step caps (roomsOf r) s c) r)) (sym (d .state)) (one-did caps s r c W))
+
 -- ---- a whole run
 pub ran-records : (caps : PrivateCapabilities) {s s′ : State} {r r′ : Runs} {cs : List Call} → Ran caps s r cs s′ r′ → Within s r
     → (s′ ≡ record-calls caps (roomsOf r) (record { state = s; list = commandsOf s r }) cs .state) × (commandsOf s′ r′ ≡ record-calls caps (roomsOf r) (record { state = s; list = commandsOf s r }) cs .list)
 unfolding record-calls
 ran-records caps done W = (refl, refl)
 ran-records caps {s} {s′} {r} {r′} (then {r₁ = r₁} {c = c} {cs = cs} a d R) W =
-    let L = subst (λ (x : Runs). Left caps s r c (a .state) x) (sym (d .runs)) (subst (λ (x : State). Left caps s r c x (runsAfter s (step caps (roomsOf r) s c) r)) (sym (d .state)) (one-did caps s r c W)) in
+    let L = left-by caps s r r₁ c a d W in
     let I = ran-records caps R (L .within) in
     let e : record { state = a .state; list = commandsOf (a .state) r₁ } ≡ record-call caps (roomsOf r) (record { state = s; list = commandsOf s r }) c = λ j. record { state = d .state j; list = L .list j } in
     let f : Rooms → Recording → Recording = λ x y. record-calls caps x y cs in
     (I .0 ∙ ap (λ (y : Recording). y .state) (ap₂ f (L .rooms) e), I .1 ∙ ap (λ (y : Recording). y .list) (ap₂ f (L .rooms) e))
 
--- THE ORDER THEOREM of the code's own states and lists: for any run after an accepted `begin_encoding` in which each call did what its contract says
-pub order-of-run : (caps : PrivateCapabilities) (s₀ s′ : State) (r₀ r r′ : Runs) (a : Answer) (calls : List Call) (D : ℕ → Bool)
-    → Did caps s₀ r₀ begin-encoding a r → carried caps (roomsOf r₀) s₀ begin-encoding ≡ true → Ran caps (a .state) r calls s′ r′
-    → Premises caps D empty (fed caps (roomsOf r) (a .state) calls)
-    → (length (play fresh (commandsOf s′ r′) .shots) ≡ length (bookOf caps empty (fed caps (roomsOf r) (a .state) calls) .draws))
-    × (found (bookOf caps empty (fed caps (roomsOf r) (a .state) calls) .draws) (play fresh (commandsOf s′ r′) .shots) ≡ named (bookOf caps empty (fed caps (roomsOf r) (a .state) calls) .draws))
-order-of-run caps s₀ s′ r₀ r r′ a calls D d e R P =
-    let begins : a .state ≡ begun caps (roomsOf r₀) s₀ .state = d .state in
-    let nothing : commandsOf (a .state) r ≡ [] = ap (λ (n : ℕ). map (λ (x : Record). x .command) (take n (r .commands))) (zero-count) in
-    let list = ran-records caps R within .1 ∙ ap (λ (l : List Command). record-calls caps (roomsOf r) (record { state = a .state; list = l }) calls .list) nothing in
-    let A = all-calls caps (roomsOf r) D (record { state = a .state; list = [] }) empty calls (subst (λ (x : State). Right caps D (record { state = x; list = [] }) empty) (sym begins) (began caps (roomsOf r₀) D s₀ e)) P .tied .log in
-    let B = subst (λ (l : List Command). Agree (play fresh l .shots) (bookOf caps empty (fed caps (roomsOf r) (a .state) calls) .draws)) (sym list) A in (
-      as-many (play fresh (commandsOf s′ r′) .shots) (bookOf caps empty (fed caps (roomsOf r) (a .state) calls) .draws) B,
-      found-is (play fresh (commandsOf s′ r′) .shots) (bookOf caps empty (fed caps (roomsOf r) (a .state) calls) .draws) B,
-    )
+-- what the functions answered is what the definition says of the calls
+done-is : (o : Outcome) → isDone o ≡ accepted o
+done-is Done = refl
+done-is WrongPhase = refl
+done-is TooMany = refl
+done-is OutOfRange = refl
+done-is Absent = refl
+done-is WrongKind = refl
+done-is Overflow = refl
+done-is NoRoom = refl
+
+pub answers-are : (caps : PrivateCapabilities) {s s′ : State} {r r′ : Runs} {cs : List Call} (R : Ran caps s r cs s′ r′) → Within s r → answers R ≡ fed caps (roomsOf r) s cs
+unfolding answers fed
+answers-are caps done W = refl
+answers-are caps {s} {s′} {r} {r′} (then {r₁ = r₁} {c = c} {cs = cs} a d R) W =
+    let L = left-by caps s r r₁ c a d W in
+    let t : isDone (a .outcome) ≡ carried caps (roomsOf r) s c = done-is (a .outcome) ∙ ap accepted (d .outcome) in
+    let I : answers R ≡ fed caps (roomsOf r) (step caps (roomsOf r) s c .state) cs = answers-are caps R (L .within) ∙ ap₂ (λ (x : Rooms) (y : State). fed caps x y cs) (L .rooms) (d .state) in
+    λ j. record { call = c; accepted = t j } ∷ I j
+
+-- where a run begins: after a `begin_encoding` that answered `Done`
+pub record Begun (caps : PrivateCapabilities) (D : ℕ → Bool) (r : Runs) (a : Answer) : Type 0 where
+  pub within : Within (a .state) r
+  pub nothing : commandsOf (a .state) r ≡ []
+  pub right : Right caps D (record { state = a .state; list = [] }) empty
+
+pub begun-run : (caps : PrivateCapabilities) (s₀ : State) (r₀ r : Runs) (a : Answer) (D : ℕ → Bool) → Did caps s₀ r₀ begin-encoding a r → a .outcome ≡ Done → Begun caps D r a
+begun-run caps s₀ r₀ r a D d e =
+    record {
+      within = subst (λ (x : State). Within x r) (sym fresh-state) (record { commands = zero-le; bytes = zero-le; queries = zero-le });
+      nothing = ap (λ (x : State). map (λ (y : Record). y .command) (take (x .progress .commands) (r .commands))) fresh-state;
+      right = subst (λ (x : State). Right caps D (record { state = x; list = [] }) empty) (sym (d .state)) (began caps (roomsOf r₀) D s₀ carries);
+    }
   where
+    carries : carried caps (roomsOf r₀) s₀ begin-encoding ≡ true
+    carries = ap accepted (sym (d .outcome) ∙ e)
+
     fresh-state : a .state ≡ withProgress (progressAfter (meaning caps s₀ begin-encoding)) (meaning caps s₀ begin-encoding .after)
-    fresh-state = d .state ∙ ap (λ (t : Bool). cond t (withProgress (progressAfter (meaning caps s₀ begin-encoding)) (meaning caps s₀ begin-encoding .after)) s₀) e
+    fresh-state = d .state ∙ ap (λ (t : Bool). cond t (withProgress (progressAfter (meaning caps s₀ begin-encoding)) (meaning caps s₀ begin-encoding .after)) s₀) carries
 
-    zero-count : a .state .progress .commands ≡ 0
-    zero-count = ap (λ (x : State). x .progress .commands) fresh-state
+-- THE ORDER THEOREM of the code's own answers, states and lists: for any run after a `begin_encoding` that answered `Done`, in which each call did what its contract says
+pub order-of-run : (caps : PrivateCapabilities) (s₀ s′ : State) (r₀ r r′ : Runs) (a : Answer) (calls : List Call) (D : ℕ → Bool)
+    → Did caps s₀ r₀ begin-encoding a r → a .outcome ≡ Done → (R : Ran caps (a .state) r calls s′ r′)
+    → Premises caps D empty (answers R)
+    → (length (play fresh (commandsOf s′ r′) .shots) ≡ length (bookOf caps empty (answers R) .draws))
+    × (found (bookOf caps empty (answers R) .draws) (play fresh (commandsOf s′ r′) .shots) ≡ named (bookOf caps empty (answers R) .draws))
+order-of-run caps s₀ s′ r₀ r r′ a calls D d e R P =
+    subst
+    (λ (fs : List Fed). (length (play fresh (commandsOf s′ r′) .shots) ≡ length (bookOf caps empty fs .draws)) × (found (bookOf caps empty fs .draws) (play fresh (commandsOf s′ r′) .shots) ≡ named (bookOf caps empty fs .draws)))
+    (sym same) (as-many (play fresh (commandsOf s′ r′) .shots) ds agree, found-is (play fresh (commandsOf s′ r′) .shots) ds agree)
+  where
+    B : Begun caps D r a
+    B = begun-run caps s₀ r₀ r a D d e
 
-    within : Within (a .state) r
-    within =
-        subst (λ (x : State). Within x r) (sym fresh-state) (record { commands = zero-le; bytes = zero-le; queries = zero-le })
+    same : answers R ≡ fed caps (roomsOf r) (a .state) calls
+    same = answers-are caps R (B .within)
+
+    ds : List Entered
+    ds = bookOf caps empty (fed caps (roomsOf r) (a .state) calls) .draws
+
+    list : commandsOf s′ r′ ≡ record-calls caps (roomsOf r) (record { state = a .state; list = [] }) calls .list
+    list = ran-records caps R (B .within) .1 ∙ ap (λ (l : List Command). record-calls caps (roomsOf r) (record { state = a .state; list = l }) calls .list) (B .nothing)
+
+    agree : Agree (play fresh (commandsOf s′ r′) .shots) ds
+    agree =
+        subst (λ (l : List Command). Agree (play fresh l .shots) ds) (sym list)
+        (all-calls caps (roomsOf r) D (record { state = a .state; list = [] }) empty calls (B .right) (subst (Premises caps D empty) same P) .tied .log)

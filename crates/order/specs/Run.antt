@@ -12,7 +12,7 @@ use Rattle.records.specs.declared.state.State.{State}
 use Rattle.calls.specs.Call.{Call, begin-encoding}
 use Rattle.calls.specs.Step.{meaning, outcomeOf, step}
 use Rattle.order.specs.Book.{Book, Fed, enterFed}
-use Rattle.order.specs.Accept.{Premise}
+use Rattle.order.specs.Premise.{Premise}
 
 -- whether a call is carried through
 abbrev pub carried : PrivateCapabilities → Rooms → State → Call → Bool

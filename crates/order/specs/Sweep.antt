@@ -67,20 +67,20 @@ module _ {G W : Type 0} (act : AttributeDesc → G → G) (read : G → ℕ → 
   passed (a ∷ l) g i h = passed l (act a g) i (h .1) ∙ other a g i (λ e. h .0 (sym e))
 
   -- each is set at its own location
-  pub allSet : (l : List AttributeDesc) → Each (λ (a : AttributeDesc). a .location < 16) l → twice (locations l) ≡ false → (g : G)
+  pub allSet : (l : List AttributeDesc) → twice (locations l) ≡ false → (g : G)
       → Each (λ (a : AttributeDesc). read (folded act l g) (a .location) ≡ value a) l
-  allSet [] low e g = tt
-  allSet (a ∷ l) low e g = (passed l (act a g) (a .location) (elsewhere (a .location) l (apart a l (low .0) e)) ∙ here a g, allSet l (low .1) (apart-rest a l e) (act a g))
+  allSet [] e g = tt
+  allSet (a ∷ l) e g = (passed l (act a g) (a .location) (elsewhere (a .location) l (apart a l e)) ∙ here a g, allSet l (apart-rest a l e) (act a g))
 
   -- the ones of a mask of slots are set, and the others left
-  pub sifted : (m : ℕ) (l : List AttributeDesc) → Each (λ (a : AttributeDesc). a .location < 16) l → twice (locations l) ≡ false → (g : G)
+  pub sifted : (m : ℕ) (l : List AttributeDesc) → twice (locations l) ≡ false → (g : G)
       → Each (λ (a : AttributeDesc). read (folded act (sentOf m l) g) (a .location) ≡ cond (testBit m (a .«buffer_index»)) (value a) (read g (a .location))) l
   unfolding sentOf
-  sifted m [] low e g = tt
-  sifted m (a ∷ l) low e g = let r = go (testBit m (a .«buffer_index»)) (λ n. sifted m l (low .1) (apart-rest a l e) n) in (r .1, r .0)
+  sifted m [] e g = tt
+  sifted m (a ∷ l) e g = let r = go (testBit m (a .«buffer_index»)) (λ n. sifted m l (apart-rest a l e) n) in (r .1, r .0)
     where
       far : Each (λ (x : AttributeDesc). x .location ≡ a .location → ⊥) l
-      far = elsewhere (a .location) l (apart a l (low .0) e)
+      far = elsewhere (a .location) l (apart a l e)
 
       fewer : (k : List AttributeDesc) → Each (λ (x : AttributeDesc). x .location ≡ a .location → ⊥) k → Each (λ (x : AttributeDesc). x .location ≡ a .location → ⊥) (sentOf m k)
       fewer [] h = tt

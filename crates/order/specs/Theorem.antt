@@ -1,5 +1,6 @@
--- THE ORDER THEOREM (document 01, demand 3): for every list of calls, refused ones included, on every board, from an accepted `begin_encoding` up to any point: played from a fresh machine, the draws of the first render pass are those that the book has, in order and as many, and each finds exactly what the book names there. Assumes nothing.
--- Under document 01's premises and no other (`Premises`, of Run.antt; `Premise`, of Accept.antt).
+-- THE ORDER THEOREM (document 01, demand 3): for every list of calls, refused ones included, on every board, from an accepted `begin_encoding` up to any point:
+-- played from a fresh machine, the draws of the first render pass are those that the book has, in order and as many, and each finds exactly what the book names there. Assumes nothing.
+-- Under document 01's premises and no other (`Premises`, of Run.antt; `Premise`, of Premise.antt).
 use Prim.Native.Nat.{ℕ}
 use mathlib.Core.Path.{_≡_, sym, _∙_}
 use mathlib.Core.Bool.{Bool, true}
@@ -14,7 +15,7 @@ use Rattle.order.specs.Machine.{Shot, Machine, fresh, play}
 use Rattle.order.specs.Found.{viewOf}
 use Rattle.order.specs.Book.{Entered, Book, empty, bookOf}
 use Rattle.order.specs.Run.{carried, record-calls, fed, Premises, begun}
-use Rattle.order.specs.Induction.{all-agree, found, found-is, as-many, found-same}
+use Rattle.order.specs.Induction.{all-agree, found, found-is, as-many}
 
 -- the draws of the first render pass as the machine carried them out, and as the book has them
 abbrev pub shots : PrivateCapabilities → Rooms → State → List Call → List Shot
@@ -33,13 +34,3 @@ pub order : (caps : PrivateCapabilities) (rooms : Rooms) (s : State) (calls : Li
 order caps rooms s calls D e P =
     let A = all-agree caps rooms s calls D e P in
     (as-many (shots caps rooms s calls) (entries caps rooms s calls) A, found-is (shots caps rooms s calls) (entries caps rooms s calls) A)
-
--- two lists on one board whose books agree at each draw, in every entry: equally many draws, and none that differs
-pub same-books : (caps : PrivateCapabilities) (rooms rooms′ : Rooms) (s s′ : State) (calls calls′ : List Call) (D D′ : ℕ → Bool)
-    → carried caps rooms s begin-encoding ≡ true → Premises caps D empty (fed caps rooms (begun caps rooms s .state) calls)
-    → carried caps rooms′ s′ begin-encoding ≡ true → Premises caps D′ empty (fed caps rooms′ (begun caps rooms′ s′ .state) calls′)
-    → entries caps rooms s calls ≡ entries caps rooms′ s′ calls′
-    → (length (shots caps rooms s calls) ≡ length (shots caps rooms′ s′ calls′))
-    × (found (entries caps rooms s calls) (shots caps rooms s calls) ≡ found (entries caps rooms s calls) (shots caps rooms′ s′ calls′))
-same-books caps rooms rooms′ s s′ calls calls′ D D′ e P e′ P′ q =
-    found-same (shots caps rooms s calls) (entries caps rooms s calls) (shots caps rooms′ s′ calls′) (entries caps rooms′ s′ calls′) (all-agree caps rooms s calls D e P) (all-agree caps rooms′ s′ calls′ D′ e′ P′) q

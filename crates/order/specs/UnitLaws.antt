@@ -1,5 +1,5 @@
 -- Samplers and units: a pipeline call re-sends the units whose number it changes, a bind group call those whose texture or sampler it names; each unit then holds the state's sampler under its number. Assumes nothing.
-use Prim.Native.Nat.{ℕ, _<_}
+use Prim.Native.Nat.{ℕ, _<_, _≤_}
 use mathlib.Core.Path.{_≡_, refl, sym, ap, ap₂, _∙_, subst}
 use mathlib.Core.Bool.{Bool, true, false, cond, not, _&&_, _||_}
 use mathlib.Core.List.{List, [], _∷_, map}
@@ -7,7 +7,7 @@ use native.Mathlib.Omega.{arith}
 use lib.Dec.{eqb, leb, ltb}
 use lib.IntN.{ℤ}
 use lib.ListN.{length, getD, set, length-set}
-use borrow.Author.Tests.{eqb-true, leb-false}
+use borrow.Author.Tests.{eqb-true, eq-eqb, ne-eqb, leb-true, leb-false}
 use Rattle.tables.specs.Tabulate.{tabulate, long, at-place, upd}
 use Rattle.mask.specs.Mask.{testBit, setBit, places}
 use Rattle.mask.specs.Laws.{test-set}
@@ -24,12 +24,13 @@ use Rattle.records.specs.declared.pipeline.PipelineInner.{PipelineInner}
 use Rattle.records.specs.declared.state.TextureSlotDesc.{TextureSlotDesc}
 use Rattle.records.specs.declared.state.BindState.{BindState}
 use Rattle.bindings.specs.Units.{unitAt, samplerAt, numberAt, resolve, takesOne, dirtyUnits}
-use Rattle.bindings.specs.Group.{Entry, entryState, groupState, texturesAfter, groupTextures, samplersAfter, groupSamplers, contentOutOfRange, entryOutOfRange, offsetsAfter}
+use Rattle.bindings.specs.Group.{Entry, entryState, groupState, isSampler, namesSampler, texturesNamed, samplersNamed, contentOutOfRange, entryOutOfRange, offsetsAfter}
 use Rattle.pipeline.specs.Inner.{isSome, valueOr, mapAt, changedUnits, innerBind}
 use Rattle.order.specs.Lists.{false-true, true-false, or-left, or-right, not-false, among-places, set-at, Each, each-not}
 use Rattle.order.specs.Sweep.{folded, swept}
 use Rattle.order.specs.Machine.{Bindings, putSampler}
-use Rattle.order.specs.Book.{Bound, enterEntry, enterGroup}
+use Rattle.order.specs.Book.{Bound}
+use Rattle.order.specs.Own.{entryBound, groupBound}
 use Rattle.order.specs.Invariant.{Units}
 
 -- one `BindSampler` on the machine's bindings
@@ -103,7 +104,7 @@ number-kept e (content.Sampler k) b u n c = refl
 
 -- a sampler is set under its slot's number, on both sides
 sampler-entered : (e : BindGroupLayoutEntry) (r : RawBinding) (os : List ℕ) (b : BindState) (x : Bound) (k : ℕ) → length (b .samplers) ≡ 16 → contentOutOfRange (e .slot) r ≡ false
-    → samplerAt b k ≡ x .samplers k → samplerAt (entryState e r b) k ≡ enterEntry e r os x .samplers k
+    → samplerAt b k ≡ x .samplers k → samplerAt (entryState e r b) k ≡ entryBound e r os x .samplers k
 sampler-entered e (content.Buffer raw offset size) os b x k n c h = h
 sampler-entered e (content.Texture raw target aspects mips) os b x k n c h = h
 sampler-entered e (content.Image binding) os b x k n c h = h
@@ -130,16 +131,15 @@ long-kept e (content.Image binding) b = (refl, refl)
 long-kept e (content.Sampler k) b = (length-set (b .samplers) (e .slot) k, refl)
 
 -- a sampler that the entry does not name is as it was
-sampler-kept : (e : BindGroupLayoutEntry) (r : RawBinding) (b : BindState) (m k : ℕ) → length (b .samplers) ≡ 16 → contentOutOfRange (e .slot) r ≡ false
-    → testBit (samplersAfter e r m) k ≡ false → samplerAt (entryState e r b) k ≡ samplerAt b k
-sampler-kept e (content.Buffer raw offset size) b m k n c h = refl
-sampler-kept e (content.Texture raw target aspects mips) b m k n c h = refl
-sampler-kept e (content.Image binding) b m k n c h = refl
-sampler-kept e (content.Sampler s) b m k n c h =
+sampler-kept : (e : BindGroupLayoutEntry) (r : RawBinding) (b : BindState) (k : ℕ) → length (b .samplers) ≡ 16 → contentOutOfRange (e .slot) r ≡ false
+    → namesSampler k (record { layout = e; raw = r }) ≡ false → samplerAt (entryState e r b) k ≡ samplerAt b k
+sampler-kept e (content.Buffer raw offset size) b k n c h = refl
+sampler-kept e (content.Texture raw target aspects mips) b k n c h = refl
+sampler-kept e (content.Image binding) b k n c h = refl
+sampler-kept e (content.Sampler s) b k n c h =
     let l : e .slot < 16 = leb-false 16 (e .slot) c in
-    let w : e .slot < 32 = in32 (e .slot) l in
-    let no : eqb k (e .slot) ≡ false = or-right (testBit m k) (eqb k (e .slot)) (sym (test-set m k (e .slot) w) ∙ h) in
-    let p = test-set (b .«sampler_set») k (e .slot) w ∙ ap (λ (t : Bool). testBit (b .«sampler_set») k || t) no ∙ or-false (testBit (b .«sampler_set») k) in
+    let no : eqb k (e .slot) ≡ false = ne-eqb k (e .slot) (λ q. true-false (sym (eq-eqb (e .slot) k (sym q)) ∙ h)) in
+    let p = test-set (b .«sampler_set») k (e .slot) (in32 (e .slot) l) ∙ ap (λ (t : Bool). testBit (b .«sampler_set») k || t) no ∙ or-false (testBit (b .«sampler_set») k) in
     let q = set-at (b .samplers) (e .slot) k s 0 (subst (λ (m : ℕ). e .slot < m) (sym n) l) ∙ ap (λ (t : Bool). cond t s (getD (b .samplers) k 0)) no in
     λ j. cond (p j) (Some (q j)) None
   where
@@ -150,16 +150,6 @@ sampler-kept e (content.Sampler s) b m k n c h =
     or-false true = refl
     or-false false = refl
 
--- a named sampler stays named
-named-before : (e : BindGroupLayoutEntry) (r : RawBinding) (m k : ℕ) → contentOutOfRange (e .slot) r ≡ false → testBit (samplersAfter e r m) k ≡ false → testBit m k ≡ false
-named-before e (content.Buffer raw offset size) m k c h = h
-named-before e (content.Texture raw target aspects mips) m k c h = h
-named-before e (content.Image binding) m k c h = h
-named-before e (content.Sampler s) m k c h = or-left (testBit m k) (eqb k (e .slot)) (sym (test-set m k (e .slot) (in32 (e .slot) (leb-false 16 (e .slot) c))) ∙ h)
-  where
-    in32 : (i : ℕ) → i < 16 → i < 32
-    in32 i l = omega arith
-
 content-ok : (x : Entry) → entryOutOfRange x ≡ false → contentOutOfRange (x .layout .slot) (x .raw) ≡ false
 content-ok x e = or-right (leb 256 (x .layout .slot)) (contentOutOfRange (x .layout .slot) (x .raw)) (or-right (leb 1000 (x .layout .binding)) (leb 256 (x .layout .slot) || contentOutOfRange (x .layout .slot) (x .raw)) e)
 
@@ -168,51 +158,74 @@ pub record Regrouped (xs : List Entry) (os : List ℕ) (b : BindState) (x : Boun
   pub samplers-long : length (groupState xs b .samplers) ≡ 16
   pub units-long : length (groupState xs b .«texture_slots») ≡ 16
   pub numbers : (u : ℕ) → numberAt (groupState xs b) u ≡ numberAt b u
-  pub samplers : (k : ℕ) → samplerAt b k ≡ x .samplers k → samplerAt (groupState xs b) k ≡ enterGroup xs os x .samplers k
-  pub unnamed : (m k : ℕ) → testBit (groupSamplers xs m) k ≡ false → (testBit m k ≡ false) × (samplerAt (groupState xs b) k ≡ samplerAt b k)
+  pub samplers : (k : ℕ) → samplerAt b k ≡ x .samplers k → samplerAt (groupState xs b) k ≡ groupBound xs os x .samplers k
+  pub unnamed : (k : ℕ) → some? (namesSampler k) xs ≡ false → samplerAt (groupState xs b) k ≡ samplerAt b k
 
 pub regrouped : (xs : List Entry) (os : List ℕ) (b : BindState) (x : Bound) → length (b .samplers) ≡ 16 → length (b .«texture_slots») ≡ 16 → some? entryOutOfRange xs ≡ false → Regrouped xs os b x
-unfolding groupState groupSamplers enterGroup some?
+unfolding groupState groupBound some?
 regrouped [] os b x n t e =
-    record { samplers-long = n; units-long = t; numbers = λ u. refl; samplers = λ k h. h; unnamed = λ m k h. (h, refl) }
+    record { samplers-long = n; units-long = t; numbers = λ u. refl; samplers = λ k h. h; unnamed = λ k h. refl }
 regrouped (y ∷ ys) os b x n t e =
     let c = content-ok y (or-left (entryOutOfRange y) (some? entryOutOfRange ys) e) in
     let l = long-kept (y .layout) (y .raw) b in
-    let R = regrouped ys (offsetsAfter (y .layout) (y .raw) os) (entryState (y .layout) (y .raw) b) (enterEntry (y .layout) (y .raw) os x) (l .0 ∙ n) (l .1 ∙ t) (or-right (entryOutOfRange y) (some? entryOutOfRange ys) e) in
+    let R = regrouped ys (offsetsAfter (y .layout) (y .raw) os) (entryState (y .layout) (y .raw) b) (entryBound (y .layout) (y .raw) os x) (l .0 ∙ n) (l .1 ∙ t) (or-right (entryOutOfRange y) (some? entryOutOfRange ys) e) in
     record {
       samplers-long = R .samplers-long;
       units-long = R .units-long;
       numbers = λ u. R .numbers u ∙ number-kept (y .layout) (y .raw) b u t c;
       samplers = λ k h. R .samplers k (sampler-entered (y .layout) (y .raw) os b x k n c h);
-      unnamed = λ m k h.
-          let r = R .unnamed (samplersAfter (y .layout) (y .raw) m) k h in
-          (named-before (y .layout) (y .raw) m k c (r .0), r .1 ∙ sampler-kept (y .layout) (y .raw) b m k n c (r .0));
+      unnamed = λ k h.
+          R .unnamed k (or-right (namesSampler k y) (some? (namesSampler k) ys) h)
+          ∙ sampler-kept (y .layout) (y .raw) b k n c (or-left (namesSampler k y) (some? (namesSampler k) ys) h);
     }
+
+-- no entry names a sampler that is not among the sixteen named
+not-named : (xs : List Entry) (k : ℕ) → some? entryOutOfRange xs ≡ false → testBit (samplersNamed xs) k ≡ false → some? (namesSampler k) xs ≡ false
+unfolding samplersNamed some?
+not-named xs k ok h = go (leb 16 k) refl
+  where
+    past : 16 ≤ k → (x : Entry) → contentOutOfRange (x .layout .slot) (x .raw) ≡ false → namesSampler k x ≡ false
+    past l x c = at (x .raw) c
+      where
+        at : (r : RawBinding) → contentOutOfRange (x .layout .slot) r ≡ false → isSampler r && eqb (x .layout .slot) k ≡ false
+        at (content.Buffer raw offset size) q = refl
+        at (content.Texture raw target aspects mips) q = refl
+        at (content.Image binding) q = refl
+        at (content.Sampler s) q = let low : x .layout .slot < 16 = leb-false 16 (x .layout .slot) q in ne-eqb (x .layout .slot) k (λ z. omega arith)
+
+    none : 16 ≤ k → (ys : List Entry) → some? entryOutOfRange ys ≡ false → some? (namesSampler k) ys ≡ false
+    none l [] q = refl
+    none l (y ∷ ys) q =
+        ap₂ (λ (s t : Bool). s || t) (past l y (content-ok y (or-left (entryOutOfRange y) (some? entryOutOfRange ys) q))) (none l ys (or-right (entryOutOfRange y) (some? entryOutOfRange ys) q))
+
+    go : (t : Bool) → leb 16 k ≡ t → some? (namesSampler k) xs ≡ false
+    go true q = none (leb-true 16 k q) xs ok
+    go false q = sym (by-at 16 (λ k. some? (namesSampler k) xs) k (leb-false 16 k q)) ∙ h
 
 pub units-grouped : (xs : List Entry) (os : List ℕ) (b : BindState) (g : Bindings) (x : Bound) → some? entryOutOfRange xs ≡ false → Units b (g .samplers) (x .samplers)
     → (g′ : Bindings) → g′ .samplers ≡ g .samplers
-    → Units (groupState xs b) (folded (samplerAct (groupState xs b)) (places (dirtyUnits (groupState xs b) (groupTextures xs 0) (groupSamplers xs 0))) g′ .samplers) (enterGroup xs os x .samplers)
+    → Units (groupState xs b) (folded (samplerAct (groupState xs b)) (places (dirtyUnits (groupState xs b) (texturesNamed xs) (samplersNamed xs))) g′ .samplers) (groupBound xs os x .samplers)
 units-grouped xs os b g x e U g′ kept =
     record {
       samplers-long = R .samplers-long;
       units-long = R .units-long;
       same = λ k l. R .samplers k (U .same k l);
       taken = λ u l.
-          sampler-swept (groupState xs b) (dirtyUnits (groupState xs b) (groupTextures xs 0) (groupSamplers xs 0)) g′ u l
+          sampler-swept (groupState xs b) (dirtyUnits (groupState xs b) (texturesNamed xs) (samplersNamed xs)) g′ u l
           ∙ ap₂ (λ (t : Bool) (o : OptionU32). cond t (resolve (groupState xs b) (numberAt (groupState xs b) u)) o)
-          (by-at 16 (λ u. testBit (groupTextures xs 0) u || takesOne (groupSamplers xs 0) (numberAt (groupState xs b) u)) u l)
+          (by-at 16 (λ u. testBit (texturesNamed xs) u || takesOne (samplersNamed xs) (numberAt (groupState xs b) u)) u l)
           (ap (λ (f : ℕ → OptionU32). f u) kept ∙ U .taken u l ∙ ap (resolve b) (sym (R .numbers u)))
-          ∙ go (testBit (groupTextures xs 0) u) (numberAt (groupState xs b) u);
+          ∙ go (testBit (texturesNamed xs) u) (numberAt (groupState xs b) u);
     }
   where
     R : Regrouped xs os b x
     R = regrouped xs os b x (U .samplers-long) (U .units-long) e
 
-    go : (t : Bool) (o : OptionU32) → cond (t || takesOne (groupSamplers xs 0) o) (resolve (groupState xs b) o) (resolve b o) ≡ resolve (groupState xs b) o
+    go : (t : Bool) (o : OptionU32) → cond (t || takesOne (samplersNamed xs) o) (resolve (groupState xs b) o) (resolve b o) ≡ resolve (groupState xs b) o
     go true o = refl
     go false None = refl
-    go false (Some k) = at (testBit (groupSamplers xs 0) k) refl
+    go false (Some k) = at (testBit (samplersNamed xs) k) refl
       where
-        at : (s : Bool) → testBit (groupSamplers xs 0) k ≡ s → cond s (samplerAt (groupState xs b) k) (samplerAt b k) ≡ samplerAt (groupState xs b) k
+        at : (s : Bool) → testBit (samplersNamed xs) k ≡ s → cond s (samplerAt (groupState xs b) k) (samplerAt b k) ≡ samplerAt (groupState xs b) k
         at true q = refl
-        at false q = sym (R .unnamed 0 k q .1)
+        at false q = sym (R .unnamed k (not-named xs k e q))

@@ -34,8 +34,9 @@ use Rattle.pipeline.specs.Vertex.{pipeDesc, attributesIn, has, pipelineVertex, 
 use Rattle.pipeline.specs.Fixed.{fixedCommands, pipelineFixed}
 use Rattle.calls.specs.Parts.{withProgress, withVertex, withDraw, withFixed, withBind, withImmediates, withLocation, withTopology, drawn}
 use Rattle.calls.specs.Settings.{boundSlot}
-use Rattle.order.specs.Lists.{false-true, true-false, or-left, or-right, set-at, Each, each-with, each-always}
-use Rattle.order.specs.Machine.{Stage, before, first, later, Attribute, VertexBuffer, Vertices, Gl, Shot, Machine, withVertices, withBindings, withFixed as withGlFixed, withFaces, putAttribute, putProgram, noted, exec, play}
+use Rattle.order.specs.Lists.{false-true, true-false, or-left, or-right, set-at, Each, each-with, each-always, none-some}
+use Rattle.order.specs.View.{Stage, before, first, later}
+use Rattle.order.specs.Machine.{Attribute, VertexBuffer, Vertices, Gl, Shot, Machine, withVertices, withBindings, withFixed as withGlFixed, withFaces, putAttribute, putProgram, noted, exec, play}
 use Rattle.order.specs.Found.{viewOf}
 use Rattle.order.specs.Book.{References, Book, Entered, withBuffer, withPipeline, referenceOf, names}
 use Rattle.order.specs.Sweep.{play-append, folded, played, unfolded}
@@ -45,7 +46,7 @@ use Rattle.order.specs.PipedVertex.{slots-piped, fetched-piped}
 use Rattle.order.specs.UnitLaws.{samplerAct, number-after, units-piped}
 use Rattle.order.specs.PipedFixed.{fixedAfter, facesAfter, play-fixed, set-piped, lazy-piped, stencil-piped}
 use Rattle.order.specs.Group.{play-samplers, samplers-res}
-use Rattle.order.specs.Drawing.{Ready, Fresh, view-is}
+use Rattle.order.specs.Drawing.{Fresh, view-is}
 use Rattle.order.specs.Keeps.{late}
 
 abbrev counted : Phase → ℕ → ℕ → ℕ → Progress
@@ -224,6 +225,7 @@ module _ (caps : PrivateCapabilities) (D : ℕ → Bool) (s : State) (m : Machin
         lazy = T .lazy;
         early = λ e. absurd (not-before e);
         slots = λ f. slots-bound (s .vertex) i raw offset low (T .slots f .long) caps D (m .gl .vertices) (b .buffer) (T .slots f);
+        bare = T .bare;
         piped = λ f p e.
             let P = T .piped f p e in
             record {
@@ -264,6 +266,7 @@ module _ (caps : PrivateCapabilities) (D : ℕ → Bool) (s : State) (m : Machin
         lazy = lazy-piped p (s .fixed) (putProgram (p .inner .program) (m .gl .fixed)) L;
         early = λ e. absurd (not-before e);
         slots = λ f. slots-piped caps p (s .vertex) D (m .gl .vertices) (vertexPlayed caps p (s .vertex) (m .gl .vertices)) (b .buffer) (T .slots f) (describes (in-first f)) (λ layout. vertex-buffers caps p (s .vertex) (m .gl .vertices));
+        bare = λ f e. none-some (sym e);
         piped = λ f q e. subst (λ (x : RenderPipeline). Piped caps D s′ (piped-machine caps p s m .gl) (referenceOf (p .stencil)) x) (some-same p q e) (new f);
       })
     where

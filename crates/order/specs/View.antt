@@ -19,6 +19,10 @@ use Rattle.records.specs.declared.command.RectI32.{RectI32}
 use Rattle.records.specs.declared.command.VertexFormatDesc.{VertexFormatDesc}
 use Rattle.records.specs.declared.command.VertexStepMode.{VertexStepMode}
 
+-- which render pass: none yet, the first, a later one
+pub data Stage : Type 0 where
+  before first later : Stage
+
 -- where an attribute's bytes come from: buffer, stride, step, first byte
 pub record Source : Type 0 where
   pub buffer : ℕ
@@ -87,8 +91,10 @@ pub record View : Type 0 where
   pub bias : DepthBiasState
   pub alpha : Bool
   pub targets : List ColorTargetDesc
-  pub clip : ℕ
+  -- which clip distances are on
+  pub clip : ℕ → Bool
   -- "whether it has depth and stencil, and these and the reference where it does"
-  pub aspects : Option ℕ
+  pub hasDepth : Option Bool
+  pub hasStencil : Option Bool
   pub depth : Option DepthState
   pub stencil : Option Stencil

@@ -30,7 +30,7 @@ use Rattle.records.specs.declared.pipeline.SamplerBind.{SamplerBind}
 use Rattle.records.specs.declared.pipeline.RenderPipeline.{RenderPipeline}
 use Rattle.records.specs.declared.state.IndexFormat.the-variants.{Uint16}
 use Rattle.slots.specs.Prepare.{bufferCommands, working}
-use Rattle.bindings.specs.Group.{zipped, groupCommands, groupState, groupTextures, groupSamplers, offsetMissing, groupOver}
+use Rattle.bindings.specs.Group.{zipped, groupCommands, groupState, texturesNamed, samplersNamed, offsetsUsed, groupOver}
 use Rattle.bindings.specs.Units.{samplerCommands}
 use Rattle.pipeline.specs.Inner.{noBind, changedUnits}
 use Rattle.pipeline.specs.Fixed.{sameTargets}
@@ -44,7 +44,7 @@ use Rattle.order.specs.View.{Fetch, BufferRange, View}
 use Rattle.order.specs.Machine.{fresh, play}
 use Rattle.order.specs.Found.{fetchAt}
 use Rattle.order.specs.Book.{Book, Fed, empty, namedFetch, enterGroup, bookOf}
-use Rattle.order.specs.Drawing.{Ready}
+use Rattle.order.specs.Premise.{Ready}
 use Rattle.order.specs.Run.{record-calls, fed, Premises, begun}
 use Rattle.order.specs.Induction.{found}
 use Rattle.order.specs.Theorem.{shots, entries, named, order}
@@ -137,7 +137,7 @@ its-list : listOf worked
     ∷ DrawIndirect 4 8 16 None
     ∷ []
 unfolding record-calls fed bookOf enterGroup outcomeOf smallest some? badUnits among twice testBit bitAt setBit without maskOf placesFrom maskBy tabulate
-    bufferCommands zipped groupCommands groupState groupTextures groupSamplers offsetMissing groupOver samplerCommands changedUnits sameTargets
+    bufferCommands zipped groupCommands groupState texturesNamed samplersNamed offsetsUsed groupOver samplerCommands changedUnits sameTargets
     beginRenderCommands attachColors resolvesFrom invalidations clearColors indirectCommands
 its-list = refl
 
@@ -182,7 +182,7 @@ its-draws =
 -- what they find on the machine, and what the book names
 its-draws-are : (map show (foundBy worked) ≡ its-draws) × (map show (namedBy worked) ≡ its-draws)
 unfolding record-calls fed bookOf enterGroup outcomeOf smallest some? badUnits among twice testBit bitAt setBit without maskOf placesFrom maskBy tabulate
-    bufferCommands zipped groupCommands groupState groupTextures groupSamplers offsetMissing groupOver samplerCommands changedUnits sameTargets
+    bufferCommands zipped groupCommands groupState texturesNamed samplersNamed offsetsUsed groupOver samplerCommands changedUnits sameTargets
     beginRenderCommands attachColors resolvesFrom invalidations clearColors indirectCommands
 its-draws-are = (refl, refl)
 
@@ -211,7 +211,7 @@ a ⨾ b = (a, b)
 
 its-premises : Premises emulated slots01 empty (fedOf worked)
 unfolding Premises record-calls fed bookOf enterGroup outcomeOf smallest some? badUnits among twice testBit bitAt setBit without maskOf placesFrom maskBy
-    tabulate bufferCommands zipped groupCommands groupState groupTextures groupSamplers offsetMissing groupOver samplerCommands changedUnits sameTargets
+    tabulate bufferCommands zipped groupCommands groupState texturesNamed samplersNamed offsetsUsed groupOver samplerCommands changedUnits sameTargets
     beginRenderCommands attachColors resolvesFrom invalidations clearColors indirectCommands
 its-premises =
     (λ a. tt)
@@ -225,7 +225,7 @@ its-premises =
     ⨾ (λ a st l f i h. refl)
     ⨾ (λ a. tt)
     ⨾ (λ a st. ready E refl (λ i. refl) refl refl)
-    ⨾ (λ a st. ready E refl (λ i. refl) refl refl)
+    ⨾ (λ a st some. ready E refl (λ i. refl) refl refl)
     ⨾ (λ a. tt)
     ⨾ tt
 
@@ -260,7 +260,7 @@ stale-fetches :
     (fetchesOf (foundBy stale) ≡ (from 16 ∷ []) ∷ [] ∷ (from 16 ∷ []) ∷ [])
     × (fetchesOf (namedBy stale) ≡ (from 16 ∷ []) ∷ [] ∷ (from 56 ∷ []) ∷ [])
 unfolding record-calls fed bookOf enterGroup outcomeOf smallest some? badUnits among twice testBit bitAt setBit without maskOf placesFrom maskBy tabulate
-    bufferCommands zipped groupCommands groupState groupTextures groupSamplers offsetMissing groupOver samplerCommands changedUnits sameTargets
+    bufferCommands zipped groupCommands groupState texturesNamed samplersNamed offsetsUsed groupOver samplerCommands changedUnits sameTargets
     beginRenderCommands attachColors resolvesFrom invalidations clearColors indirectCommands
 stale-fetches = (refl, refl)
 
@@ -283,6 +283,6 @@ two-passes-fetch :
     (fetchAt (play fresh (listOf two-passes) .gl .vertices) 0 ≡ from 56)
     × (namedFetch (bookOf emulated empty (fedOf two-passes)) (working emulated 0) (attribute 0 0 0) ≡ from 16)
 unfolding record-calls fed bookOf enterGroup outcomeOf smallest some? badUnits among twice testBit bitAt setBit without maskOf placesFrom maskBy tabulate
-    bufferCommands zipped groupCommands groupState groupTextures groupSamplers offsetMissing groupOver samplerCommands changedUnits sameTargets
+    bufferCommands zipped groupCommands groupState texturesNamed samplersNamed offsetsUsed groupOver samplerCommands changedUnits sameTargets
     beginRenderCommands attachColors resolvesFrom invalidations clearColors indirectCommands
 two-passes-fetch = (refl, refl)
