@@ -141,40 +141,11 @@ viewport = set-viewport (record { x = float 0x3f80_0000; y = float 0x4000_0000; 
 abbrev scissor : Call
 scissor = set-scissor-rect (record { x = 1; y = 0; w = 2; h = 3 })
 
--- a compute pass before; an indirect call with count 0 before any pipeline; a refused draw (buffer number 0); a reference call; a later pass
-abbrev calls : List Call
-calls =
-    compute
-    ∷ set-compute-pipeline (record { inner = inner 9 [] 2 })
-    ∷ dispatch-workgroups 1 1 1
-    ∷ end-compute-pass
-    ∷ barePass
-    ∷ draw-indirect 8 0 0
-    ∷ viewport
-    ∷ scissor
-    ∷ set-blend-constants colour
-    ∷ set-render-pipeline one
-    ∷ set-vertex-buffer 0 7 100
-    ∷ set-vertex-buffer 1 7 16
-    ∷ group
-    ∷ set-index-buffer 9 32 Uint16
-    ∷ draw-indirect 0 0 1
-    ∷ draw 0 3 5 1
-    ∷ set-stencil-reference 6
-    ∷ draw-indexed 6 3 (pos 0) 2 1
-    ∷ set-render-pipeline two
-    ∷ draw-indexed-indirect 8 40 2
-    ∷ end-render-pass
-    ∷ barePass
-    ∷ set-render-pipeline one
-    ∷ draw 0 3 1 1
-    ∷ end-render-pass
-    ∷ []
-
--- what the book is fed, on each board the same
 abbrev done : Call → Fed
 done c = record { call = c; accepted = true }
 
+-- the calls, and what the book is fed of them on each board: a compute pass before; an indirect call with count 0 before any pipeline;
+-- a refused draw (buffer number 0); a reference call; a later pass
 abbrev its-fed : List Fed
 its-fed =
     done compute
@@ -203,6 +174,9 @@ its-fed =
     ∷ done (draw 0 3 1 1)
     ∷ done end-render-pass
     ∷ []
+
+abbrev calls : List Call
+calls = map (λ (f : Fed). f .call) its-fed
 
 abbrev fedOn : PrivateCapabilities → List Fed
 fedOn caps = fed caps rooms (begun caps rooms startState .state) calls

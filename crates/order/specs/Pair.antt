@@ -3,7 +3,7 @@
 use Prim.Native.Nat.{ℕ, zero, suc, _<_}
 use mathlib.Core.Path.{_≡_, refl, sym, ap, _∙_, subst}
 use mathlib.Core.Bool.{Bool, true, false, cond}
-use mathlib.Core.List.{List, [], _∷_}
+use mathlib.Core.List.{List, [], _∷_, map}
 use mathlib.Core.Option.{Option, none, some}
 use lib.Dec.{ltb, eqb}
 use lib.Ieee.{binary32, ofBits}
@@ -60,9 +60,6 @@ wide =
       «timestamp_writes» = writes.None;
     }
 
-abbrev short : List Call
-short = barePass ∷ set-render-pipeline (fetching 0) ∷ set-vertex-buffer 0 7 16 ∷ drawAt 5 ∷ []
-
 -- viewport and scissor of the narrow pass
 abbrev narrowViewport : Call
 narrowViewport = set-viewport (record { x = ofBits binary32 0; y = ofBits binary32 0; w = ofBits binary32 0x4080_0000; h = ofBits binary32 0x4040_0000 }) wholeDepth
@@ -70,39 +67,14 @@ narrowViewport = set-viewport (record { x = ofBits binary32 0; y = ofBits binary
 abbrev narrowScissor : Call
 narrowScissor = set-scissor-rect (record { x = 0; y = 0; w = 4; h = 3 })
 
--- buffer 6 is that of an earlier wall; slot 16 is refused
-abbrev long : List Call
-long =
-    begin-render-pass wide noLabel noQueries
-    ∷ set-render-pipeline (fetching 4)
-    ∷ set-vertex-buffer 0 6 0
-    ∷ set-vertex-buffer 16 7 16
-    ∷ narrowViewport
-    ∷ narrowScissor
-    ∷ set-render-pipeline (fetching 0)
-    ∷ set-vertex-buffer 0 7 16
-    ∷ drawAt 5
-    ∷ []
-
-abbrev fedOf : List Call → List Fed
-fedOf calls = fed emulated rooms (begun emulated rooms startState .state) calls
-
-abbrev listOf : List Call → List Command
-listOf calls = record-calls emulated rooms (begun emulated rooms startState) calls .list
-
--- the lists differ: 10 commands, and 15
-lengths : (length (listOf short) ≡ 10) × (length (listOf long) ≡ 15)
-unfolding record-calls outcomeOf smallest some? badUnits among twice testBit bitAt setBit without maskOf placesFrom maskBy tabulate clampTo ofBits
-    bufferCommands samplerCommands changedUnits sameTargets beginRenderCommands attachColors resolvesFrom invalidations clearColors
-lengths = (refl, refl)
-
--- what the books are fed
 abbrev done : Call → Fed
 done c = record { call = c; accepted = true }
 
+-- the calls, and what the books are fed of them
 abbrev short-fed : List Fed
 short-fed = done barePass ∷ done (set-render-pipeline (fetching 0)) ∷ done (set-vertex-buffer 0 7 16) ∷ done (drawAt 5) ∷ []
 
+-- buffer 6 is that of an earlier wall; slot 16 is refused
 abbrev long-fed : List Fed
 long-fed =
     done (begin-render-pass wide noLabel noQueries)
@@ -115,6 +87,27 @@ long-fed =
     ∷ done (set-vertex-buffer 0 7 16)
     ∷ done (drawAt 5)
     ∷ []
+
+abbrev callsIn : List Fed → List Call
+callsIn fs = map (λ (f : Fed). f .call) fs
+
+abbrev short : List Call
+short = callsIn short-fed
+
+abbrev long : List Call
+long = callsIn long-fed
+
+abbrev fedOf : List Call → List Fed
+fedOf calls = fed emulated rooms (begun emulated rooms startState .state) calls
+
+abbrev listOf : List Call → List Command
+listOf calls = record-calls emulated rooms (begun emulated rooms startState) calls .list
+
+-- the lists differ: 10 commands, and 15
+lengths : (length (listOf short) ≡ 10) × (length (listOf long) ≡ 15)
+unfolding record-calls outcomeOf smallest some? badUnits among twice testBit bitAt setBit without maskOf placesFrom maskBy tabulate clampTo ofBits
+    bufferCommands samplerCommands changedUnits sameTargets beginRenderCommands attachColors resolvesFrom invalidations clearColors
+lengths = (refl, refl)
 
 fed-are : (fedOf short ≡ short-fed) × (fedOf long ≡ long-fed)
 unfolding fed outcomeOf smallest some? badUnits among twice testBit bitAt setBit without maskOf placesFrom maskBy tabulate
