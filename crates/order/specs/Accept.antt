@@ -1,12 +1,11 @@
 -- Each call keeps the tie: an accepted one by its own lemma, a refused one because it changes nothing. Assumes nothing.
-use Prim.Native.Nat.{ℕ, zero, suc, _+_, _*_, _<_}
+use Prim.Native.Nat.{ℕ, _+_, _*_, _<_}
 use mathlib.Core.Path.{_≡_, refl, sym, ap, ap₂, _∙_, subst}
-use mathlib.Core.Bool.{Bool, true, false, cond, not, _&&_, _||_}
-use mathlib.Core.List.{List, [], _∷_, _++_, map, append-nil}
-use mathlib.Core.Option.{Option, none, some}
-use lib.Dec.{leb, ltb, eqb}
+use mathlib.Core.Bool.{Bool, true, false, cond, not}
+use mathlib.Core.List.{List, [], _++_}
+use lib.Dec.{leb, ltb}
 use lib.IntN.{ℤ}
-use lib.ListN.{length, getD, take}
+use lib.ListN.{getD, take}
 use borrow.Author.Tests.{leb-false, lt-ltb}
 use Rattle.tables.specs.Tabulate.{tabulate}
 use Rattle.records.specs.Outcome.{accepted}
@@ -19,8 +18,6 @@ use Rattle.records.specs.declared.check.Rooms.{Rooms}
 use Rattle.records.specs.declared.command.Command.{Command}
 use Rattle.records.specs.declared.command.Command.the-variants.{DrawIndexed, DrawIndirect, DrawIndexedIndirect}
 use Rattle.records.specs.declared.pipeline.PrivateCapabilities.{PrivateCapabilities}
-use Rattle.records.specs.declared.pipeline.RenderPipeline.{RenderPipeline}
-use Rattle.records.specs.declared.state.Phase.{Phase}
 use Rattle.records.specs.declared.state.Phase.the-variants.{Closed, Open, Render, Compute}
 use Rattle.records.specs.declared.state.State.{State}
 use Rattle.slots.specs.Prepare.{working, prepared}
@@ -32,22 +29,20 @@ use Rattle.pass.specs.Marks.{counted, beginTimestamp, pushLabel, popLabel, time
 use Rattle.pass.specs.Render.{endRenderPass, endComputePass}
 use Rattle.calls.specs.Call.{Call, begin-encoding, end-encoding, begin-render-pass, end-render-pass, begin-compute-pass, end-compute-pass, transition-buffers, transition-textures, clear-buffer, copy-buffer-to-buffer, copy-query-results, begin-query, end-query, write-timestamp, reset-queries, set-bind-group, set-immediates, set-render-pipeline, set-compute-pipeline, set-index-buffer, set-vertex-buffer, set-viewport, set-scissor-rect, set-stencil-reference, set-blend-constants, draw, draw-indexed, draw-indirect, draw-indexed-indirect, dispatch-workgroups, dispatch-workgroups-indirect}
 use Rattle.calls.specs.Transfers.{bufferBarriers, regionsOf}
-use Rattle.calls.specs.Settings.{viewportRect, scissorRect}
-use Rattle.calls.specs.Draws.{DrawArgs, drawCommand, drawIndexedCommand, indexType, indirectCommands, indexedIndirectCommands}
+use Rattle.calls.specs.Draws.{drawCommand, drawIndexedCommand, indexType, indirectCommands, indexedIndirectCommands}
 use Rattle.calls.specs.Parts.{withProgress, drawArgs, drawn}
-use Rattle.calls.specs.Meaning.{Meaning, inPass}
-use Rattle.calls.specs.Step.{meaning, progressAfter, outcomeOf, Step, step}
-use Rattle.order.specs.Lists.{false-true, not-false, or-left, or-right}
-use Rattle.order.specs.View.{Stage, before, first, later}
-use Rattle.order.specs.Machine.{Machine, fresh, exec, play}
+use Rattle.calls.specs.Step.{meaning, progressAfter, outcomeOf}
+use Rattle.order.specs.Lists.{not-false, or-left, or-right}
+use Rattle.order.specs.View.{first}
+use Rattle.order.specs.Machine.{Machine, fresh, play}
 use Rattle.order.specs.Book.{Book, Bound, withBound, enterGroup, entriesIn, enter, enterDraw, enterDraws, typeOf, sizeOf}
-use Rattle.order.specs.Premise.{Ready, SameSlots, Premise}
+use Rattle.order.specs.Premise.{Ready, Premise}
 use Rattle.order.specs.Own.{described-is, type-is, size-is, groupBound, group-is}
-use Rattle.order.specs.Invariant.{First, Sane, DescribesOn, Tied}
+use Rattle.order.specs.Invariant.{Tied}
 use Rattle.order.specs.Accepted.{in-phase, in-range, present, kinds}
 use Rattle.order.specs.Idle.{Idle, idle-append, idle-begin, idle-push, idle-pop, idle-timestamp, idle-buffers, idle-textures, idle-copies, idle-immediates, idle-dispatch}
 use Rattle.order.specs.Drawing.{argsOf}
-use Rattle.order.specs.Keeps.{open-is, render-is, compute-is, started, recounted, idles, moves}
+use Rattle.order.specs.Keeps.{render-is, compute-is, started, idles, moves}
 use Rattle.order.specs.Calls.{by-begin-render, by-end-render, by-bind-group, by-compute-pipeline, by-index-buffer, by-screen, by-reference}
 use Rattle.order.specs.VertexCalls.{by-vertex-buffer, by-render-pipeline}
 use Rattle.order.specs.DrawCalls.{by-draw, by-indirect}

@@ -1,7 +1,7 @@
 -- The book of document 01: "fed each call's arguments and whether it was accepted". It never sees the recorder's state or the list. Definitions only.
 -- It knows calls and document 01, and nothing of the recorder. It shares with it the declared records, the GL numbers of WebGPU's names (`names`, from OpenGL ES)
 -- and the conversions of numbers (`numbers`): these have definitions of their own, from the public documents.
-use Prim.Native.Nat.{ℕ, zero, suc, _+_, _*_}
+use Prim.Native.Nat.{ℕ, _+_, _*_}
 use mathlib.Core.Bool.{Bool, true, false, cond}
 use mathlib.Core.List.{List, [], _∷_, _++_, map}
 use mathlib.Core.Option.{Option, none, some}
@@ -13,10 +13,8 @@ use Rattle.tables.specs.Tabulate.{tabulate, upd}
 use Rattle.numbers.specs.Convert.{signed, twos, truncTo}
 use Rattle.names.specs.Maps.{primitiveTopology, primitiveState}
 use Rattle.names.specs.declared.gl.StencilSide.{StencilSide}
-use Rattle.names.specs.declared.gl.StencilState.{StencilState}
 use Rattle.records.specs.declared.args.RectF32.{RectF32}
 use Rattle.records.specs.declared.args.RectU32.{RectU32}
-use Rattle.records.specs.declared.binding.BindGroup.{BindGroup}
 use Rattle.records.specs.declared.binding.BindGroupLayoutEntry.{BindGroupLayoutEntry}
 use Rattle.records.specs.declared.binding.BindingType.{BindingType}
 use Rattle.records.specs.declared.binding.BindingType.the-variants as type
@@ -32,7 +30,6 @@ use Rattle.records.specs.declared.command.ColorF32.{ColorF32}
 use Rattle.records.specs.declared.command.ColorTargetDesc.{ColorTargetDesc}
 use Rattle.records.specs.declared.command.Command.{Command}
 use Rattle.records.specs.declared.command.Command.the-variants.{Draw, DrawIndexed, DrawIndirect, DrawIndexedIndirect}
-use Rattle.records.specs.declared.command.DepthBiasState.{DepthBiasState}
 use Rattle.records.specs.declared.command.DepthState.{DepthState}
 use Rattle.records.specs.declared.command.Extent3d.{Extent3d}
 use Rattle.records.specs.declared.command.ImageBinding.{ImageBinding}
@@ -111,6 +108,7 @@ attributesIn p = take (p .«vertex_attribute_count») (p .«vertex_attributes»)
 abbrev pub targetsIn : RenderPipeline → List ColorTargetDesc
 targetsIn p = take (p .«color_target_count») (p .«color_targets»)
 
+-- a description, if one is given
 abbrev pub given : OptionVertexBufferDesc → Option VertexBufferDesc
 given layout.None = none
 given (layout.Some d) = some d
@@ -119,6 +117,7 @@ given (layout.Some d) = some d
 abbrev pub describes : RenderPipeline → ℕ → Option VertexBufferDesc
 describes p i = cond (ltb i (p .«vertex_buffer_count»)) (given (getD (p .«vertex_buffers») i (record { desc = layout.None }) .desc)) none
 
+-- the book has one
 abbrev pub known : {A : Type 0} → Option A → Bool
 known none = false
 known (some a) = true
@@ -136,6 +135,7 @@ namedSource w offset (some d) none = none
 namedSource w offset (some d) (some b) =
     some (record { buffer = b .raw; stride = d .stride; step = d .step; first = offset + b .offset + ifInstance (d .step) (w * d .stride) })
 
+-- of the book's pipeline, if it has one: the description of a slot; a unit's sampler number; anything; anything, or what there is without one
 abbrev pub descBy : Option RenderPipeline → ℕ → Option VertexBufferDesc
 descBy none i = none
 descBy (some p) i = describes p i

@@ -1,7 +1,7 @@
 -- The draw calls. Assumes nothing.
-use Prim.Native.Nat.{ℕ, zero, suc, _+_, _*_, _<_}
-use mathlib.Core.Path.{_≡_, refl, sym, ap, ap₂, _∙_, subst}
-use mathlib.Core.Bool.{Bool, true, false, cond, not, _&&_, _||_}
+use Prim.Native.Nat.{ℕ, zero, suc, _+_, _<_}
+use mathlib.Core.Path.{_≡_, refl, sym, ap, _∙_, subst}
+use mathlib.Core.Bool.{Bool, true, false, cond}
 use mathlib.Core.List.{List, [], _∷_, _++_, map, append-assoc, append-nil}
 use mathlib.Core.Option.{Option, none, some}
 use native.Mathlib.Omega.{arith}
@@ -22,13 +22,12 @@ use Rattle.calls.specs.Draws.{DrawArgs}
 use Rattle.calls.specs.Parts.{withProgress, drawArgs, drawn}
 use Rattle.order.specs.Lists.{true-false, Each}
 use Rattle.order.specs.View.{Stage, before, first, later}
-use Rattle.order.specs.Machine.{Attribute, Vertices, Gl, Shot, Machine, withVertices, noted, shoot, exec, play}
+use Rattle.order.specs.Machine.{Attribute, Vertices, Shot, Machine, withVertices, noted, shoot, exec, play}
 use Rattle.order.specs.Found.{viewOf}
-use Rattle.order.specs.View.{View}
-use Rattle.order.specs.Book.{Book, Entered, withDraws, entered, enterDraw, enterDraws, inFirst, names}
+use Rattle.order.specs.Book.{Book, Entered, entered, enterDraw, enterDraws, inFirst, names}
 use Rattle.order.specs.Premise.{Ready}
-use Rattle.order.specs.Sweep.{play-append, folded, played, unfolded}
-use Rattle.order.specs.Invariant.{First, Sane, Agree, slotBuffer, attributeBuffer, sentAttribute, Slots, Fetched, Piped, Tied}
+use Rattle.order.specs.Sweep.{play-append, folded, played}
+use Rattle.order.specs.Invariant.{First, Sane, Agree, slotBuffer, attributeBuffer, sentAttribute, Fetched, Piped, Tied}
 use Rattle.order.specs.Prepared.{bufferAct, attributeAct, slot-after, attribute-kept, attributes-after}
 use Rattle.order.specs.Drawing.{Fresh, argsOf, args-are, view-is}
 use Rattle.order.specs.Keeps.{first-is, is-first, late}

@@ -1,26 +1,22 @@
 -- A draw of the first render pass finds what the book names. Assumes nothing.
 use Prim.Native.Nat.{ℕ, zero, suc, _+_, _<_}
-use mathlib.Core.Path.{_≡_, refl, sym, ap, ap₂, _∙_, subst}
+use mathlib.Core.Path.{_≡_, refl, sym, ap, _∙_}
 use mathlib.Core.Bool.{Bool, true, false, cond}
 use mathlib.Core.List.{List, [], _∷_, map}
 use mathlib.Core.Option.{Option, none, some}
 use native.Mathlib.Nat.{add-assoc}
-use native.Mathlib.Omega.{arith}
 use lib.Dec.{leb, ltb}
 use lib.IntN.{pos}
-use lib.ListN.{length, getD}
+use lib.ListN.{getD}
 use borrow.Author.Tests.{leb-false}
 use Rattle.tables.specs.Tabulate.{tabulate, alike}
-use Rattle.mask.specs.Mask.{testBit, places}
-use Rattle.names.specs.Maps.{primitiveTopology, primitiveState}
+use Rattle.mask.specs.Mask.{testBit}
+use Rattle.names.specs.Maps.{primitiveState}
 use Rattle.records.specs.Check.{some?, badDescriptor}
 use Rattle.records.specs.declared.command.AttributeDesc.{AttributeDesc}
-use Rattle.records.specs.declared.command.BufferBinding.{BufferBinding}
-use Rattle.records.specs.declared.command.ColorTargetDesc.{ColorTargetDesc}
 use Rattle.records.specs.declared.command.Command.{Command}
 use Rattle.records.specs.declared.command.OptionU32.{OptionU32}
 use Rattle.records.specs.declared.command.OptionU32.the-variants.{None, Some}
-use Rattle.records.specs.declared.command.VertexBufferDesc.{VertexBufferDesc}
 use Rattle.records.specs.declared.pipeline.PipelineInner.{PipelineInner}
 use Rattle.records.specs.declared.pipeline.PrivateCapabilities.{PrivateCapabilities}
 use Rattle.records.specs.declared.pipeline.RenderPipeline.{RenderPipeline}
@@ -28,22 +24,22 @@ use Rattle.records.specs.declared.pipeline.SamplerBind.{SamplerBind}
 use Rattle.records.specs.declared.state.BindState.{BindState}
 use Rattle.records.specs.declared.state.State.{State}
 use Rattle.records.specs.declared.state.VertexState.{VertexState}
-use Rattle.slots.specs.Vertex.{slotAt, descAt, bindingAt}
-use Rattle.slots.specs.Prepare.{instanceOffset, slotDesc, slotOffset, attributeOffset}
-use Rattle.bindings.specs.Units.{samplerAt, numberAt, resolve}
+use Rattle.slots.specs.Vertex.{slotAt}
+use Rattle.slots.specs.Prepare.{slotDesc, slotOffset, attributeOffset}
+use Rattle.bindings.specs.Units.{resolve}
 use Rattle.pipeline.specs.Inner.{valueOr, noBind, mapAt, badNumber, innerDescriptors, innerOutOfRange}
-use Rattle.pipeline.specs.Vertex.{pipeDesc, attributesIn, has, descOr}
-use Rattle.pipeline.specs.Fixed.{aspectsOf, targetsIn}
+use Rattle.pipeline.specs.Vertex.{pipeDesc, attributesIn, has}
+use Rattle.pipeline.specs.Fixed.{targetsIn}
 use Rattle.calls.specs.Draws.{DrawArgs}
 use Rattle.calls.specs.Parts.{drawArgs}
-use Rattle.order.specs.Lists.{false-true, or-left, or-right, Each, each-map, each-not}
-use Rattle.order.specs.View.{Source, Fetch, View}
-use Rattle.order.specs.Machine.{Attribute, VertexBuffer, Vertices, Gl, Shot}
+use Rattle.order.specs.Lists.{or-left, Each, each-map, each-not}
+use Rattle.order.specs.View.{Source}
+use Rattle.order.specs.Machine.{VertexBuffer, Vertices, Gl}
 use Rattle.order.specs.Found.{fetchOf, fetchAt, attributesBy, targetsBy, flagAt, where?, facesOf, viewOf}
-use Rattle.order.specs.Book.{References, Bound, Book, ifInstance, namedSource, descBy, namedFetch, namedSampler, numberBy, by, byOr, hasDepth, hasStencil, namedDepth, depthNamed, stencilNamed, names, topologyBy, locationBy}
+use Rattle.order.specs.Book.{Book, namedSource, descBy, namedFetch, namedSampler, numberBy, by, byOr, hasDepth, hasStencil, depthNamed, stencilNamed, names, topologyBy, locationBy}
 use Rattle.order.specs.Premise.{Ready}
 use Rattle.order.specs.Own.{describes-is, known-is, described-is, stepped-is, depth-flag, stencil-flag}
-use Rattle.order.specs.Invariant.{slotBuffer, attributeBuffer, sentAttribute, ScreenTied, ResTied, ArgsTied, Units, Slots, Drawn, Set, Stenciled, Numbered, Fetched, Piped}
+use Rattle.order.specs.Invariant.{slotBuffer, attributeBuffer, sentAttribute, ScreenTied, ResTied, ArgsTied, Units, Slots, Drawn, Numbered, Fetched, Piped}
 use Rattle.order.specs.Prepared.{desc-some, binding-some, Ranged, ranged-each, described-each}
 
 -- document 01's first premise, by the recorder's descriptions

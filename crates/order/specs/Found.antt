@@ -1,6 +1,6 @@
 -- What a draw finds on the machine: "read off the machine at its pipeline's own attribute locations and target places; what earlier pipelines left at others is no part of it". Definitions only.
 use Prim.Native.Nat.{ℕ, _+_}
-use mathlib.Core.Bool.{Bool, true, false, cond}
+use mathlib.Core.Bool.{Bool, cond}
 use mathlib.Core.List.{List, [], map}
 use mathlib.Core.Option.{Option, none, some}
 use lib.ListN.{length, take}
@@ -12,7 +12,7 @@ use Rattle.records.specs.declared.command.OptionU32.the-variants.{None, Some}
 use Rattle.records.specs.declared.command.VertexBufferDesc.{VertexBufferDesc}
 use Rattle.records.specs.declared.pipeline.RenderPipeline.{RenderPipeline}
 use Rattle.order.specs.View.{Source, Fetch, Stencil, View}
-use Rattle.order.specs.Machine.{Attribute, VertexBuffer, Vertices, Faces, Gl, Shot}
+use Rattle.order.specs.Machine.{Attribute, VertexBuffer, Vertices, Faces, Shot}
 
 -- the source of an attribute with no buffer of its own: its slot's vertex buffer, the offsets added
 abbrev pub slotSource : ℕ → Option VertexBuffer → Option Source

@@ -1,11 +1,10 @@
 -- The induction over the calls. Assumes nothing.
-use Prim.Native.Nat.{ℕ, zero, suc, _+_, _≤_, _<_, min}
+use Prim.Native.Nat.{ℕ, suc, _+_}
 use mathlib.Core.Path.{_≡_, refl, sym, ap, ap₂, _∙_, subst}
-use mathlib.Core.Bool.{Bool, true, false, cond, _||_}
+use mathlib.Core.Bool.{Bool, true, false, cond}
 use mathlib.Core.List.{List, [], _∷_, _++_, map}
 use mathlib.Core.Logic.{_⊎_, inl, inr}
-use native.Mathlib.Omega.{arith}
-use lib.ListN.{length, take, length-append, length-take}
+use lib.ListN.{length, take, length-append}
 use lib.Seq.{take-length}
 use Rattle.records.specs.Start.{startProgress}
 use Rattle.records.specs.Outcome.{accepted}
@@ -16,12 +15,11 @@ use Rattle.records.specs.declared.state.Progress.{Progress}
 use Rattle.records.specs.declared.state.State.{State}
 use Rattle.calls.specs.Call.{Call, begin-encoding, end-encoding, begin-render-pass, end-render-pass, begin-compute-pass, end-compute-pass, transition-buffers, transition-textures, clear-buffer, copy-buffer-to-buffer, copy-query-results, begin-query, end-query, write-timestamp, reset-queries, set-bind-group, set-immediates, set-render-pipeline, set-compute-pipeline, set-index-buffer, set-vertex-buffer, set-viewport, set-scissor-rect, set-stencil-reference, set-blend-constants, draw, draw-indexed, draw-indirect, draw-indexed-indirect, dispatch-workgroups, dispatch-workgroups-indirect}
 use Rattle.calls.specs.Parts.{withProgress}
-use Rattle.calls.specs.Step.{meaning, progressAfter, outcomeOf, step}
-use Rattle.order.specs.Lists.{false-true}
+use Rattle.calls.specs.Step.{meaning, progressAfter}
 use Rattle.order.specs.View.{View}
-use Rattle.order.specs.Machine.{Shot, Machine, fresh, exec, play}
+use Rattle.order.specs.Machine.{Shot, Machine, fresh, play}
 use Rattle.order.specs.Found.{viewOf}
-use Rattle.order.specs.Book.{Entered, Book, empty, Fed, enter, enterFed, bookOf}
+use Rattle.order.specs.Book.{Entered, Book, empty, enter, enterFed, bookOf}
 use Rattle.order.specs.Sweep.{play-append}
 use Rattle.order.specs.Invariant.{Agree, Tied}
 use Rattle.order.specs.Keeps.{started}

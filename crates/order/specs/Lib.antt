@@ -28,6 +28,7 @@ pub mod Pages
 pub mod Same
 pub mod Complete
 pub mod NotEmpty
+pub mod Worked
 pub mod Samples
 pub mod Cases
 pub mod EdgeSamples

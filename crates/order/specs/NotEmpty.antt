@@ -24,12 +24,12 @@ use Rattle.pipeline.specs.Vertex.{pipeDesc, has, vertexOutOfRange, vertexAbsent
 use Rattle.calls.specs.Call.{Call, begin-encoding, end-encoding, begin-render-pass, end-render-pass, begin-compute-pass, end-compute-pass, transition-buffers, transition-textures, clear-buffer, copy-buffer-to-buffer, copy-query-results, begin-query, end-query, write-timestamp, reset-queries, set-bind-group, set-immediates, set-render-pipeline, set-compute-pipeline, set-index-buffer, set-vertex-buffer, set-viewport, set-scissor-rect, set-stencil-reference, set-blend-constants, draw, draw-indexed, draw-indirect, draw-indexed-indirect, dispatch-workgroups, dispatch-workgroups-indirect}
 use Rattle.calls.specs.Did.{Runs, roomsOf, Did}
 use Rattle.calls.specs.Step.{meaning, outcomeOf}
-use Rattle.order.specs.View.{Stage, before, first, later, Fetch, View}
+use Rattle.order.specs.View.{Stage, before, first, later}
 use Rattle.order.specs.Machine.{Machine, fresh, play}
-use Rattle.order.specs.Book.{Entered, Book, empty, attributesIn, known, namedSource, descBy, namedFetch, by, byOr, names, inFirst, entered, Fed, enter, enterFed, bookOf, nextStage}
+use Rattle.order.specs.Book.{Entered, Book, empty, attributesIn, known, namedSource, descBy, namedFetch, by, byOr, names, inFirst, Fed, enter, enterFed, bookOf}
 use Rattle.order.specs.Premise.{Ready, Premise}
 use Rattle.order.specs.Complete.{Sourced, Complete}
-use Rattle.order.specs.Run.{carried, Recording, record-call, record-calls, fed, Premises, begun}
+use Rattle.order.specs.Run.{carried, Recording, record-call, fed, Premises, begun}
 use Rattle.order.specs.Lists.{false-true, Each}
 use Rattle.order.specs.Own.{described-is}
 use Rattle.order.specs.Invariant.{First, Fetched, Tied}

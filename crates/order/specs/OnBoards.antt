@@ -1,15 +1,13 @@
 -- One worked list on three boards, by computation: each entry of a draw's view is seen with a value that is not its start. Its premises are proved, so the order theorem speaks of it. Assumes nothing.
-use Prim.Native.Nat.{ℕ, zero, suc, _<_}
+use Prim.Native.Nat.{ℕ}
 use mathlib.Core.Path.{_≡_, refl, sym, ap, _∙_, subst}
-use mathlib.Core.Bool.{Bool, true, false, cond}
+use mathlib.Core.Bool.{Bool, true, false}
 use mathlib.Core.List.{List, [], _∷_, map}
 use mathlib.Core.Option.{Option, none, some}
-use lib.Dec.{ltb}
 use lib.Ieee.{Float, binary32, ofBits}
-use lib.IntN.{ℤ, pos}
-use lib.ListN.{length, take}
+use lib.IntN.{pos}
+use lib.ListN.{take}
 use native.Mathlib.Omega.{arith}
-use borrow.Author.Tests.{le-ltb}
 use Rattle.mask.specs.Mask.{testBit, bitAt, setBit, without, maskOf, placesFrom}
 use Rattle.mask.specs.By.{maskBy}
 use Rattle.tables.specs.Tabulate.{tabulate}
@@ -39,7 +37,6 @@ use Rattle.records.specs.declared.command.OptionBlend.the-variants as blend
 use Rattle.records.specs.declared.command.OptionU32.{OptionU32}
 use Rattle.records.specs.declared.command.OptionU32.the-variants.{None, Some}
 use Rattle.records.specs.declared.command.RectI32.{RectI32}
-use Rattle.records.specs.declared.command.VertexBufferDesc.{VertexBufferDesc}
 use Rattle.records.specs.declared.command.VertexStepMode.the-variants.{Vertex, Instance}
 use Rattle.records.specs.declared.pipeline.OptionDepthState.the-variants as depth
 use Rattle.records.specs.declared.pipeline.OptionStencilState.the-variants as stencil
@@ -59,9 +56,9 @@ use Rattle.calls.specs.Call.{Call, begin-encoding, end-render-pass, end-compute
 use Rattle.calls.specs.Draws.{indirectCommands, indexedIndirectCommands}
 use Rattle.calls.specs.Step.{outcomeOf}
 use Rattle.order.specs.Lists.{false-true}
-use Rattle.order.specs.View.{Fetch, BufferRange, TextureBinding, Viewport, StencilFunc, FaceOps, Stencil, View}
-use Rattle.order.specs.Book.{Book, Fed, empty, known, describes, enterGroup, bookOf}
-use Rattle.order.specs.Premise.{Ready}
+use Rattle.order.specs.View.{Fetch, BufferRange, TextureBinding, Viewport, StencilFunc, Stencil, View}
+use Rattle.order.specs.Book.{Fed, empty, known, describes, enterGroup, bookOf}
+use Rattle.order.specs.Worked.{ready-2, _⨾_}
 use Rattle.order.specs.Run.{carried, record-calls, fed, Premises, begun}
 use Rattle.order.specs.Induction.{found}
 use Rattle.order.specs.Theorem.{shots, entries, named, order}
@@ -191,25 +188,6 @@ fed-are = (refl, refl, refl)
 abbrev slots01 : ℕ → Bool
 slots01 i = known (describes one i)
 
-ready : {b : Book} (p : RenderPipeline) → b .pipeline ≡ some p → ((i : ℕ) → known (describes p i) ≡ slots01 i)
-    → known (b .buffer 0) ≡ true → known (b .buffer 1) ≡ true → Ready b
-ready {b} p is same zeroth first = record { pipeline = p; is = is; bound = buffers }
-  where
-    absent : (t : Bool) (d : Option VertexBufferDesc) → t ≡ false → known (cond t d none) ≡ false
-    absent true d q = false-true (sym q)
-    absent false d q = refl
-
-    buffers : (i : ℕ) → i < 16 → known (describes p i) ≡ true → known (b .buffer i) ≡ true
-    buffers zero h e = zeroth
-    buffers (suc zero) h e = first
-    buffers (suc (suc i)) h e =
-        false-true (sym (absent (ltb (suc (suc i)) 2) _ (le-ltb (suc (suc i)) 2 (omega arith))) ∙ sym (same (suc (suc i))) ∙ e)
-
--- a premise for each call, in order
-infixr 20 _⨾_
-_⨾_ : {A B : Type 0} → A → B → A × B
-a ⨾ b = (a, b)
-
 its-premises : (caps : PrivateCapabilities) → Premises caps slots01 empty its-fed
 unfolding Premises enterGroup
 its-premises caps =
@@ -228,15 +206,15 @@ its-premises caps =
     ⨾ (λ a. tt)
     ⨾ (λ a. tt)
     ⨾ (λ a. false-true a)
-    ⨾ (λ a st. ready one refl (λ i. refl) refl refl)
+    ⨾ (λ a st. ready-2 one refl refl refl refl)
     ⨾ (λ a. tt)
-    ⨾ (λ a st. ready one refl (λ i. refl) refl refl)
+    ⨾ (λ a st. ready-2 one refl refl refl refl)
     ⨾ (λ a st l f i h. refl)
-    ⨾ (λ a st some. ready two refl (λ i. refl) refl refl)
+    ⨾ (λ a st some. ready-2 two refl refl refl refl)
     ⨾ (λ a. tt)
     ⨾ (λ a. tt)
     ⨾ (λ a st l f i h. refl)
-    ⨾ (λ a st. ready one refl (λ i. refl) refl refl)
+    ⨾ (λ a st. ready-2 one refl refl refl refl)
     ⨾ (λ a. tt)
     ⨾ tt
 

@@ -1,7 +1,7 @@
 -- The book's own words and the recorder's definitions come to the same. Assumes nothing.
 use Prim.Native.Nat.{ℕ, _+_, _*_}
-use mathlib.Core.Path.{_≡_, refl, sym, ap, ap₂, _∙_}
-use mathlib.Core.Bool.{Bool, true, false, cond}
+use mathlib.Core.Path.{_≡_, refl, ap, ap₂, _∙_}
+use mathlib.Core.Bool.{Bool, cond}
 use mathlib.Core.List.{List, [], _∷_}
 use mathlib.Core.Option.{Option, none, some}
 use lib.Dec.{ltb}
@@ -34,7 +34,7 @@ use Rattle.bindings.specs.Group.{Entry, zipped, headOr, rest, dynamic, bufferTa
 use Rattle.pipeline.specs.Vertex.{described, pipeDesc, has}
 use Rattle.pipeline.specs.Fixed.{depthAspect, stencilAspect}
 use Rattle.calls.specs.Draws.{indexType, indexSize}
-use Rattle.order.specs.View.{Stage, before, first, later, BufferRange}
+use Rattle.order.specs.View.{Stage, before, first, later}
 use Rattle.order.specs.Machine.{onward}
 use Rattle.order.specs.Book.{Bound, given, describes, known, ifInstance, hasDepth, hasStencil, typeOf, sizeOf, targetOf, isDynamic, nextOf, leftOf, offsetsLeft, offsetIn, enterEntry, enterGroup, nextStage}
 

@@ -1,16 +1,14 @@
 -- Two different lists under `same-order`, by computation: another pass record, an earlier buffer in slot 0, another pipeline before, a refused call;
 -- the same draw, and the same page at it. Assumes nothing.
-use Prim.Native.Nat.{ℕ, zero, suc, _<_}
+use Prim.Native.Nat.{ℕ}
 use mathlib.Core.Path.{_≡_, refl, sym, ap, _∙_, subst}
 use mathlib.Core.Bool.{Bool, true, false, cond}
 use mathlib.Core.List.{List, [], _∷_, map}
 use mathlib.Core.Option.{Option, none, some}
-use lib.Dec.{ltb, eqb}
+use lib.Dec.{eqb}
 use lib.Ieee.{binary32, ofBits}
 use lib.IntN.{pos}
 use lib.ListN.{length}
-use native.Mathlib.Omega.{arith}
-use borrow.Author.Tests.{le-ltb}
 use Rattle.mask.specs.Mask.{testBit, bitAt, setBit, without, maskOf, placesFrom}
 use Rattle.mask.specs.By.{maskBy}
 use Rattle.tables.specs.Tabulate.{tabulate, upd}
@@ -21,11 +19,9 @@ use Rattle.records.specs.Check.{some?, badUnits, among, twice}
 use Rattle.records.specs.declared.command.BufferBinding.{BufferBinding}
 use Rattle.records.specs.declared.command.Command.{Command}
 use Rattle.records.specs.declared.command.DepthRange.{DepthRange}
-use Rattle.records.specs.declared.command.VertexBufferDesc.{VertexBufferDesc}
 use Rattle.records.specs.declared.pass.OptionDepthStencil.the-variants as target
 use Rattle.records.specs.declared.pass.OptionTimestampWrites.the-variants as writes
 use Rattle.records.specs.declared.pass.RenderPassDescriptor.{RenderPassDescriptor}
-use Rattle.records.specs.declared.pipeline.RenderPipeline.{RenderPipeline}
 use Rattle.records.specs.declared.state.IndexFormat.the-variants.{Uint32}
 use Rattle.slots.specs.Prepare.{bufferCommands}
 use Rattle.bindings.specs.Units.{samplerCommands}
@@ -34,10 +30,8 @@ use Rattle.pipeline.specs.Fixed.{sameTargets}
 use Rattle.pass.specs.Render.{noPlace, beginRenderCommands, attachColors, resolvesFrom, invalidations, clearColors}
 use Rattle.calls.specs.Call.{Call, begin-render-pass, set-render-pipeline, set-vertex-buffer, set-viewport, set-scissor-rect}
 use Rattle.calls.specs.Step.{outcomeOf}
-use Rattle.order.specs.Lists.{false-true}
-use Rattle.order.specs.View.{View}
-use Rattle.order.specs.Book.{Book, Fed, empty, known, describes, enterGroup, bookOf}
-use Rattle.order.specs.Premise.{Ready}
+use Rattle.order.specs.Book.{Fed, empty, known, describes}
+use Rattle.order.specs.Worked.{ready-1, _⨾_}
 use Rattle.order.specs.Run.{record-calls, fed, Premises, begun}
 use Rattle.order.specs.Pages.{Page, noteCalls, drawCalls, callsOf, pagesOf}
 use Rattle.order.specs.Induction.{found}
@@ -118,29 +112,14 @@ fed-are = (refl, refl)
 abbrev slot0 : ℕ → Bool
 slot0 i = known (describes (fetching 0) i)
 
-ready : {b : Book} → b .pipeline ≡ some (fetching 0) → known (b .buffer 0) ≡ true → Ready b
-ready {b} is zeroth = record { pipeline = fetching 0; is = is; bound = buffers }
-  where
-    absent : (t : Bool) (d : Option VertexBufferDesc) → t ≡ false → known (cond t d none) ≡ false
-    absent true d q = false-true (sym q)
-    absent false d q = refl
-
-    buffers : (i : ℕ) → i < 16 → known (describes (fetching 0) i) ≡ true → known (b .buffer i) ≡ true
-    buffers zero h e = zeroth
-    buffers (suc i) h e = false-true (sym (absent (ltb (suc i) 1) _ (le-ltb (suc i) 1 (omega arith))) ∙ e)
-
-infixr 20 _⨾_
-_⨾_ : {A B : Type 0} → A → B → A × B
-a ⨾ b = (a, b)
-
 short-premises : Premises emulated slot0 empty short-fed
 unfolding Premises
-short-premises = (λ a. tt) ⨾ (λ a st l f i h. refl) ⨾ (λ a. tt) ⨾ (λ a st. ready refl refl) ⨾ tt
+short-premises = (λ a. tt) ⨾ (λ a st l f i h. refl) ⨾ (λ a. tt) ⨾ (λ a st. ready-1 (fetching 0) refl refl refl) ⨾ tt
 
 long-premises : Premises emulated slot0 empty long-fed
 unfolding Premises
 long-premises =
-    (λ a. tt) ⨾ (λ a st l f i h. refl) ⨾ (λ a. tt) ⨾ (λ a. tt) ⨾ (λ a. tt) ⨾ (λ a. tt) ⨾ (λ a st l f i h. refl) ⨾ (λ a. tt) ⨾ (λ a st. ready refl refl) ⨾ tt
+    (λ a. tt) ⨾ (λ a st l f i h. refl) ⨾ (λ a. tt) ⨾ (λ a. tt) ⨾ (λ a. tt) ⨾ (λ a. tt) ⨾ (λ a st l f i h. refl) ⨾ (λ a. tt) ⨾ (λ a st. ready-1 (fetching 0) refl refl refl) ⨾ tt
 
 -- ---- the draw call and its page
 same-calls : callsOf (drawCalls emulated short-fed) ≡ callsOf (drawCalls emulated long-fed)

@@ -1,7 +1,7 @@
 -- The tie to the code: a run in which each call did what its contract says (`Did`), each handed what the last one left; and the order theorem about the states and the lists of such a run. Assumes nothing.
-use Prim.Native.Nat.{ℕ, zero, suc, _+_, _-_, _≤_, _<_, zero-le}
+use Prim.Native.Nat.{ℕ, zero, suc, _+_, _-_, _≤_, zero-le}
 use mathlib.Core.Path.{_≡_, refl, sym, ap, ap₂, _∙_, subst}
-use mathlib.Core.Bool.{Bool, true, false, cond, not, _||_}
+use mathlib.Core.Bool.{Bool, true, false, cond, _||_}
 use mathlib.Core.List.{List, [], _∷_, _++_, map, map-append, append-assoc, append-nil}
 use mathlib.Core.Logic.{_⊎_, inl, inr}
 use native.Mathlib.Nat.{add-zero, le-of-eq}
@@ -24,13 +24,13 @@ use Rattle.records.specs.declared.state.State.{State}
 use Rattle.calls.specs.Call.{Call, begin-encoding, end-encoding, begin-render-pass, end-render-pass, begin-compute-pass, end-compute-pass, transition-buffers, transition-textures, clear-buffer, copy-buffer-to-buffer, copy-query-results, begin-query, end-query, write-timestamp, reset-queries, set-bind-group, set-immediates, set-render-pipeline, set-compute-pipeline, set-index-buffer, set-vertex-buffer, set-viewport, set-scissor-rect, set-stencil-reference, set-blend-constants, draw, draw-indexed, draw-indirect, draw-indexed-indirect, dispatch-workgroups, dispatch-workgroups-indirect}
 use Rattle.calls.specs.Parts.{withProgress}
 use Rattle.calls.specs.Meaning.{Meaning}
-use Rattle.calls.specs.Step.{meaning, progressAfter, outcomeOf, Step, step}
+use Rattle.calls.specs.Step.{meaning, progressAfter, step}
 use Rattle.calls.specs.Did.{Runs, roomsOf, written, recordOf, runsAfter, Did}
 use Rattle.order.specs.Lists.{or-left, or-right}
-use Rattle.order.specs.Machine.{Shot, fresh, play}
-use Rattle.order.specs.Book.{Entered, Fed, Book, empty, bookOf}
-use Rattle.order.specs.Accepted.{in-room, was-in-room}
-use Rattle.order.specs.Run.{carried, Recording, record-call, record-calls, fed, Premises, begun}
+use Rattle.order.specs.Machine.{fresh, play}
+use Rattle.order.specs.Book.{Entered, Fed, empty, bookOf}
+use Rattle.order.specs.Accepted.{in-room}
+use Rattle.order.specs.Run.{carried, Recording, record-call, record-calls, fed, Premises}
 use Rattle.order.specs.Invariant.{Agree}
 use Rattle.order.specs.Induction.{Goes, goes, Right, began, all-calls, as-many, found, found-is}
 use Rattle.order.specs.Theorem.{named}

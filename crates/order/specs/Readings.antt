@@ -27,7 +27,7 @@ use Rattle.bindings.specs.Immediates.{bytesOf, immediateCommands, immediateByte
 use Rattle.bindings.specs.Units.{samplerCommands}
 use Rattle.pass.specs.Marks.{Label}
 use Rattle.pass.specs.Render.{beginRenderCommands, attachColors, resolvesFrom, invalidations, clearColors}
-use Rattle.calls.specs.Call.{QuerySet, Call, begin-render-pass, begin-compute-pass, copy-query-results, set-bind-group, set-immediates, set-vertex-buffer}
+use Rattle.calls.specs.Call.{Call, begin-render-pass, begin-compute-pass, copy-query-results, set-bind-group, set-immediates, set-vertex-buffer}
 use Rattle.calls.specs.Parts.{withProgress, withImmediates}
 use Rattle.calls.specs.Step.{meaning, outcomeOf}
 use Rattle.order.specs.Run.{record-calls, fed}

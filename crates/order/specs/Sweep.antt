@@ -1,20 +1,15 @@
 -- Runs of commands of one kind, played: they change one group of the machine's settings, place by place. Assumes nothing.
-use Prim.Native.Nat.{ℕ, zero, suc, _+_, _<_}
-use mathlib.Core.Path.{_≡_, refl, sym, ap, ap₂, _∙_}
-use mathlib.Core.Bool.{Bool, true, false, cond, _&&_, _||_}
+use Prim.Native.Nat.{ℕ, _+_}
+use mathlib.Core.Path.{_≡_, refl, sym, ap, _∙_}
+use mathlib.Core.Bool.{Bool, true, false, cond, _||_}
 use mathlib.Core.List.{List, [], _∷_, _++_, map}
-use mathlib.Core.Option.{Option, none, some}
-use native.Mathlib.Decide.{ℕ-discrete}
-use native.Mathlib.Omega.{arith}
 use lib.Dec.{eqb}
-use borrow.Author.Tests.{eq-eqb, ne-eqb}
-use Rattle.tables.specs.Tabulate.{upd, upd-same, upd-other}
 use Rattle.mask.specs.Mask.{testBit}
 use Rattle.records.specs.Check.{among, twice, locations}
 use Rattle.records.specs.declared.command.AttributeDesc.{AttributeDesc}
 use Rattle.records.specs.declared.command.Command.{Command}
 use Rattle.slots.specs.Prepare.{sentOf}
-use Rattle.order.specs.Lists.{Each, each-map, each-with, false-true, true-false, apart, apart-rest, elsewhere}
+use Rattle.order.specs.Lists.{Each, each-with, apart, apart-rest, elsewhere}
 use Rattle.order.specs.Machine.{Machine, exec, play}
 
 pub play-append : (m : Machine) (xs ys : List Command) → play m (xs ++ ys) ≡ play (play m xs) ys

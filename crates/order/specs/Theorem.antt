@@ -2,18 +2,17 @@
 -- played from a fresh machine, the draws of the first render pass are those that the book has, in order and as many, and each finds exactly what the book names there. Assumes nothing.
 -- Under document 01's premises and no other (`Premises`, of Run.antt; `Premise`, of Premise.antt).
 use Prim.Native.Nat.{ℕ}
-use mathlib.Core.Path.{_≡_, sym, _∙_}
+use mathlib.Core.Path.{_≡_}
 use mathlib.Core.Bool.{Bool, true}
-use mathlib.Core.List.{List, [], _∷_, map}
+use mathlib.Core.List.{List, map}
 use lib.ListN.{length}
 use Rattle.records.specs.declared.check.Rooms.{Rooms}
 use Rattle.records.specs.declared.pipeline.PrivateCapabilities.{PrivateCapabilities}
 use Rattle.records.specs.declared.state.State.{State}
 use Rattle.calls.specs.Call.{Call, begin-encoding}
 use Rattle.order.specs.View.{View}
-use Rattle.order.specs.Machine.{Shot, Machine, fresh, play}
-use Rattle.order.specs.Found.{viewOf}
-use Rattle.order.specs.Book.{Entered, Book, empty, bookOf}
+use Rattle.order.specs.Machine.{Shot, fresh, play}
+use Rattle.order.specs.Book.{Entered, empty, bookOf}
 use Rattle.order.specs.Run.{carried, record-calls, fed, Premises, begun}
 use Rattle.order.specs.Induction.{all-agree, found, found-is, as-many}
 

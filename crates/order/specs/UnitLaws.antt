@@ -2,19 +2,18 @@
 use Prim.Native.Nat.{ℕ, _<_, _≤_}
 use mathlib.Core.Path.{_≡_, refl, sym, ap, ap₂, _∙_, subst}
 use mathlib.Core.Bool.{Bool, true, false, cond, not, _&&_, _||_}
-use mathlib.Core.List.{List, [], _∷_, map}
+use mathlib.Core.List.{List, [], _∷_}
 use native.Mathlib.Omega.{arith}
-use lib.Dec.{eqb, leb, ltb}
-use lib.IntN.{ℤ}
-use lib.ListN.{length, getD, set, length-set}
+use lib.Dec.{eqb, leb}
+use lib.ListN.{length, getD, length-set}
 use borrow.Author.Tests.{eqb-true, eq-eqb, ne-eqb, leb-true, leb-false}
-use Rattle.tables.specs.Tabulate.{tabulate, long, at-place, upd}
-use Rattle.mask.specs.Mask.{testBit, setBit, places}
+use Rattle.tables.specs.Tabulate.{long, at-place}
+use Rattle.mask.specs.Mask.{testBit, places}
 use Rattle.mask.specs.Laws.{test-set}
-use Rattle.mask.specs.By.{maskBy, by-at}
+use Rattle.mask.specs.By.{by-at}
 use Rattle.records.specs.Start.{startTextureSlot}
 use Rattle.records.specs.Same.{sameOptionU32, option-u32}
-use Rattle.records.specs.Check.{among, some?}
+use Rattle.records.specs.Check.{some?}
 use Rattle.records.specs.declared.binding.BindGroupLayoutEntry.{BindGroupLayoutEntry}
 use Rattle.records.specs.declared.binding.RawBinding.{RawBinding}
 use Rattle.records.specs.declared.binding.RawBinding.the-variants as content
@@ -26,7 +25,7 @@ use Rattle.records.specs.declared.state.BindState.{BindState}
 use Rattle.bindings.specs.Units.{unitAt, samplerAt, numberAt, resolve, takesOne, dirtyUnits}
 use Rattle.bindings.specs.Group.{Entry, entryState, groupState, isSampler, namesSampler, texturesNamed, samplersNamed, contentOutOfRange, entryOutOfRange, offsetsAfter}
 use Rattle.pipeline.specs.Inner.{isSome, valueOr, mapAt, changedUnits, innerBind}
-use Rattle.order.specs.Lists.{false-true, true-false, or-left, or-right, not-false, among-places, set-at, Each, each-not}
+use Rattle.order.specs.Lists.{true-false, or-left, or-right, among-places, set-at}
 use Rattle.order.specs.Sweep.{folded, swept}
 use Rattle.order.specs.Machine.{Bindings, putSampler}
 use Rattle.order.specs.Book.{Bound}

@@ -1,14 +1,11 @@
 -- Worked lists of calls, by computation: the order theorem is not empty, its second premise is needed, and so is "the first render pass". Assumes nothing.
-use Prim.Native.Nat.{ℕ, zero, suc, _<_}
-use mathlib.Core.Path.{_≡_, refl, sym, _∙_}
-use mathlib.Core.Bool.{Bool, true, false, cond}
+use Prim.Native.Nat.{ℕ}
+use mathlib.Core.Path.{_≡_, refl}
+use mathlib.Core.Bool.{Bool, true, false}
 use mathlib.Core.List.{List, [], _∷_, _++_, map}
 use mathlib.Core.Option.{Option, none, some}
 use lib.IntN.{pos}
 use lib.ListN.{take}
-use lib.Dec.{ltb}
-use native.Mathlib.Omega.{arith}
-use borrow.Author.Tests.{le-ltb}
 use Rattle.mask.specs.Mask.{testBit, bitAt, setBit, without, maskOf, placesFrom}
 use Rattle.mask.specs.By.{maskBy}
 use Rattle.tables.specs.Tabulate.{tabulate}
@@ -23,7 +20,6 @@ use Rattle.records.specs.declared.command.Command.{Command}
 use Rattle.records.specs.declared.command.Command.the-variants.{DrawIndexed, DrawIndirect, SetIndexBuffer, ResetFramebuffer, SetDrawColorBuffers, SetViewport, SetScissor, ConfigureDepthStencil, SetVertexAttribute, SetProgram, SetPrimitive, BindBuffer, BindSampler, BindTexture}
 use Rattle.records.specs.declared.command.OptionU32.{OptionU32}
 use Rattle.records.specs.declared.command.OptionU32.the-variants.{None, Some}
-use Rattle.records.specs.declared.command.VertexBufferDesc.{VertexBufferDesc}
 use Rattle.records.specs.declared.command.VertexStepMode.the-variants.{Vertex, Instance}
 use Rattle.records.specs.declared.pipeline.OptionStencilState.the-variants as stencil
 use Rattle.records.specs.declared.pipeline.SamplerBind.{SamplerBind}
@@ -39,12 +35,11 @@ use Rattle.pass.specs.Render.{fullDepth, beginRenderCommands, attachColors, res
 use Rattle.calls.specs.Call.{Call, end-render-pass, set-render-pipeline, set-index-buffer, set-vertex-buffer, draw-indexed, draw-indirect}
 use Rattle.calls.specs.Draws.{indirectCommands}
 use Rattle.calls.specs.Step.{outcomeOf}
-use Rattle.order.specs.Lists.{false-true}
 use Rattle.order.specs.View.{Fetch, BufferRange, View}
 use Rattle.order.specs.Machine.{fresh, play}
 use Rattle.order.specs.Found.{fetchAt}
-use Rattle.order.specs.Book.{Book, Fed, empty, namedFetch, enterGroup, bookOf}
-use Rattle.order.specs.Premise.{Ready}
+use Rattle.order.specs.Book.{Fed, empty, namedFetch, enterGroup, bookOf}
+use Rattle.order.specs.Worked.{ready-2, _⨾_}
 use Rattle.order.specs.Run.{record-calls, fed, Premises, begun}
 use Rattle.order.specs.Induction.{found}
 use Rattle.order.specs.Theorem.{shots, entries, named, order}
@@ -190,25 +185,6 @@ its-draws-are = (refl, refl)
 abbrev slots01 : ℕ → Bool
 slots01 i = has (pipeDesc C i)
 
-ready : {b : Book} (p : RenderPipeline) → b .pipeline ≡ some p → ((i : ℕ) → has (pipeDesc p i) ≡ slots01 i)
-    → has (b .buffer 0) ≡ true → has (b .buffer 1) ≡ true → Ready b
-ready {b} p is describes zeroth first = record { pipeline = p; is = is; bound = buffers }
-  where
-    absent : (t : Bool) (d : Option VertexBufferDesc) → t ≡ false → has (cond t d none) ≡ false
-    absent true d q = false-true (sym q)
-    absent false d q = refl
-
-    buffers : (i : ℕ) → i < 16 → has (pipeDesc p i) ≡ true → has (b .buffer i) ≡ true
-    buffers zero h e = zeroth
-    buffers (suc zero) h e = first
-    buffers (suc (suc i)) h e =
-        false-true (sym (absent (ltb (suc (suc i)) 2) _ (le-ltb (suc (suc i)) 2 (omega arith))) ∙ sym (describes (suc (suc i))) ∙ e)
-
--- a premise for each call, in order
-infixr 20 _⨾_
-_⨾_ : {A B : Type 0} → A → B → A × B
-a ⨾ b = (a, b)
-
 its-premises : Premises emulated slots01 empty (fedOf worked)
 unfolding Premises record-calls fed bookOf enterGroup outcomeOf smallest some? badUnits among twice testBit bitAt setBit without maskOf placesFrom maskBy
     tabulate bufferCommands zipped groupCommands groupState texturesNamed samplersNamed offsetsUsed groupOver samplerCommands changedUnits sameTargets
@@ -220,12 +196,12 @@ its-premises =
     ⨾ (λ a. tt)
     ⨾ (λ a. tt)
     ⨾ (λ a. tt)
-    ⨾ (λ a st. ready C refl (λ i. refl) refl refl)
-    ⨾ (λ a st. ready C refl (λ i. refl) refl refl)
+    ⨾ (λ a st. ready-2 C refl refl refl refl)
+    ⨾ (λ a st. ready-2 C refl refl refl refl)
     ⨾ (λ a st l f i h. refl)
     ⨾ (λ a. tt)
-    ⨾ (λ a st. ready E refl (λ i. refl) refl refl)
-    ⨾ (λ a st some. ready E refl (λ i. refl) refl refl)
+    ⨾ (λ a st. ready-2 E refl refl refl refl)
+    ⨾ (λ a st some. ready-2 E refl refl refl refl)
     ⨾ (λ a. tt)
     ⨾ tt
 
