@@ -135,7 +135,7 @@ namedSource w offset (some d) none = none
 namedSource w offset (some d) (some b) =
     some (record { buffer = b .raw; stride = d .stride; step = d .step; first = offset + b .offset + ifInstance (d .step) (w * d .stride) })
 
--- of the book's pipeline, if it has one: the description of a slot; a unit's sampler number; anything; anything, or what there is without one
+-- how the book's pipeline describes a slot
 abbrev pub descBy : Option RenderPipeline → ℕ → Option VertexBufferDesc
 descBy none i = none
 descBy (some p) i = describes p i
@@ -155,10 +155,12 @@ abbrev pub namedSampler : (ℕ → OptionU32) → OptionU32 → OptionU32
 namedSampler f None = None
 namedSampler f (Some k) = f k
 
+-- the sampler number that it has for unit u
 abbrev pub numberBy : Option RenderPipeline → ℕ → OptionU32
 numberBy none u = None
 numberBy (some p) u = getD (p .inner .«sampler_map») u (record { «sampler_index» = None }) .«sampler_index»
 
+-- what it says, if there is one; and with a value that stands for none
 abbrev pub by : {A : Type 0} → (RenderPipeline → A) → Option RenderPipeline → Option A
 by f none = none
 by f (some p) = some (f p)
