@@ -1,5 +1,5 @@
 #!/usr/bin/env python3
-"""compare.py ORACLE FROM TO [options]: see tools/compare.sh."""
+"""compare.py ORACLE PUBLISHED FROM TO [options]: see tools/compare.sh."""
 import argparse
 import itertools
 import os
@@ -8,6 +8,9 @@ import sys
 import tempfile
 
 HERE = os.path.dirname(os.path.abspath(__file__))
+sys.path.insert(0, os.path.join(HERE, "oracle", "tools"))
+import requests  # noqa: E402  (tools/oracle/tools/requests.py)
+
 BATCH = 1000  # sessions that are held on disk at a time
 END = b"===\n"
 
@@ -19,6 +22,7 @@ def stop(message):
 def arguments():
     parser = argparse.ArgumentParser(prog="compare.sh")
     parser.add_argument("oracle")
+    parser.add_argument("published")
     parser.add_argument("first", metavar="FROM", type=int)
     parser.add_argument("end", metavar="TO", type=int)
     parser.add_argument("--long", action="store_true")
@@ -47,15 +51,44 @@ def build(args, folder):
 
 
 def rust(args, folder, first, end):
-    """Writes the files flat, out and index of the seeds; answers the index: seed, calls, refused, commands."""
+    """Writes the files flat, out and index of the seeds, by both builds; answers the index: seed, calls, refused, commands."""
     options = ["--long"] if args.long else []
     if args.calls is not None:
         options += ["--calls", str(args.calls)]
-    files = [os.path.join(folder, name) for name in ("flat", "out", "index")]
-    p = subprocess.run([args.oracle, "batch", str(first), str(end), *options, "--flat", files[0], "--out", files[1], "--index", files[2]])
-    if p.returncode:
-        stop(f"the oracle failed on the seeds {first} to {end}")
-    return [tuple(map(int, line.split())) for line in open(files[2])]
+    for build, ending in ((args.oracle, ""), (args.published, ".published")):
+        files = [os.path.join(folder, name + ending) for name in ("flat", "out", "index")]
+        p = subprocess.run([build, "batch", str(first), str(end), *options, "--flat", files[0], "--out", files[1], "--index", files[2]])
+        if p.returncode:
+            stop(f"the oracle{ending} failed on the seeds {first} to {end}")
+    if read(folder, "flat") != read(folder, "flat.published") or read(folder, "index") != read(folder, "index.published"):
+        stop(f"the two builds of the Rust make or answer other calls on the seeds {first} to {end}")
+    return [tuple(map(int, line.split())) for line in open(os.path.join(folder, "index"))]
+
+
+def read(folder, name):
+    with open(os.path.join(folder, name), "rb") as file:
+        return file.read()
+
+
+def sessions(flat):
+    """The sessions of a flat file, each by itself."""
+    lines, at = flat.decode().splitlines(keepends=True), 0
+    while at < len(lines):
+        end = at + 1 + int(lines[at].split()[7])
+        yield "".join(lines[at:end])
+        at = end
+
+
+def both_builds(folder, index, tally):
+    """The two builds of the Rust print the same but for what a landed request allows."""
+    texts = [[p.decode() for p in parts(read(folder, name))] for name in ("out.published", "out")]
+    for row, flat, published, requested in itertools.zip_longest(index, sessions(read(folder, "flat")), *texts):
+        if None in (row, flat, published, requested):
+            stop("the two builds of the Rust print other numbers of sessions")
+        try:
+            tally.add(*requests.hold(flat, published, requested))
+        except requests.Unequal as e:
+            stop(f"seed {row[0]}: the two builds of the Rust differ otherwise than a request allows: {e}")
 
 
 def mine(program, folder, index):
@@ -97,13 +130,14 @@ def words(seed, want, have):
 
 def main():
     args = arguments()
-    total, differ, told = [0] * 5, [], None
+    total, differ, told, tally = [0] * 5, [], None, requests.Tally()
     with tempfile.TemporaryDirectory() as folder:
         program = build(args, folder)
         for first in range(args.first, args.end, BATCH):
             index = rust(args, folder, first, min(first + BATCH, args.end))
+            both_builds(folder, index, tally)
             got = mine(program, folder, index)
-            expected = open(os.path.join(folder, "out"), "rb").read()
+            expected = read(folder, "out")
             if got != expected:
                 seeds, first_told = differences(index, expected, got)
                 differ += seeds
@@ -111,8 +145,14 @@ def main():
             counts = [len(index), sum(r[2] > 0 for r in index), *(sum(r[k] for r in index) for k in (1, 2, 3))]
             total = [a + b for a, b in zip(total, counts)]
     print("sessions {}, with refused calls {}, calls {}, refused {}, commands {}, differences {}".format(*total, len(differ)))
+    print(tally.text())
     if differ:
         print(told, file=sys.stderr)
+    # a long session has so many passes that nearly every one has a clear after an empty place
+    faults = tally.faults(by_pass=args.long)
+    for fault in faults:
+        print(f"compare: {fault}", file=sys.stderr)
+    if differ or faults:
         sys.exit(1)
 
 

@@ -1,7 +1,9 @@
 #!/bin/sh
 # compare.sh FROM TO [--long] [--calls N] [--program PATH] [--native] [--harness]
-# The random sessions of the seeds from FROM to TO (without TO) on the Rust (tools/oracle) and on a program that reads the
-# flat form; everything that they print is compared byte for byte. Exit 1 on a difference, with the first seed that differs.
+# The random sessions of the seeds from FROM to TO (without TO) on the Rust with the landed requests (tools/oracle) and on a program
+# that reads the flat form; everything that they print is compared byte for byte. Exit 1 on a difference, with the first seed that differs.
+# The same sessions on the published Rust: it must print the same but for what a landed request allows (tools/oracle/tools/requests.py).
+# Exit 1 too if no session is equal to it, none differs by a landed request, or fewer than half are equal (--long: counted by pass).
 #   --long          sessions of 2,000 calls in one list, most of them until the list is full
 #   --calls N       calls of a session: 60 if not given
 #   --program PATH  the program: target/bin/script if not given (rt check script)
@@ -13,5 +15,6 @@
 set -eu
 here=$(cd "$(dirname "$0")" && pwd -P)
 command -v cargo >/dev/null || { echo "compare.sh: no cargo: a Rust compiler is needed" >&2; exit 2; }
-(cd "$here/oracle" && cargo build -q --offline)
-exec python3 "$here/compare.py" "${CARGO_TARGET_DIR:-$here/oracle/target}/debug/oracle" "$@"
+"$here/oracle/tools/build.sh"
+target=${CARGO_TARGET_DIR:-$here/oracle/target}
+exec python3 "$here/compare.py" "$target/debug/oracle" "$target/published/debug/oracle" "$@"

@@ -1,12 +1,16 @@
 #!/usr/bin/env python3
 """Writes the comparison data (README.md, 'The comparison data'): sessions as numbers and what the
-Rust records for them. Everything comes from seeds and from the scripts at hand, so two runs are equal."""
+Rust with the landed requests records for them, held against the published Rust (requests.py).
+Everything comes from seeds and from the scripts at hand, so two runs are equal."""
 import glob, os, re, subprocess, sys
+import requests
 ROOT = os.path.dirname(os.path.dirname(os.path.abspath(__file__)))
-O = os.path.join(os.environ.get("CARGO_TARGET_DIR", os.path.join(ROOT, "target")), "debug/oracle")
+TARGET = os.environ.get("CARGO_TARGET_DIR", os.path.join(ROOT, "target"))
+O, PUBLISHED = (os.path.join(TARGET, f) for f in ("debug/oracle", "published/debug/oracle"))
 DATA = os.path.join(ROOT, "data")
 CALLS = 60          # calls of a random session
-SKIP = {"T7_draw_at_4096", "B30"}           # large; data/scripts/full_*.txt have the same edges in less
+# the first two are large; data/scripts/full_*.txt have the same edges in less. The third is P12_empty_place_0 with the published Rust's list
+SKIP = {"T7_draw_at_4096", "B30", "P12_published"}
 OBJECTS = {"caps", "room", "buf", "qset", "view", "pipe", "cpipe", "group", "layout", "bg"}
 CALL = """begin_encoding end_encoding begin_render_pass end_render_pass begin_compute_pass end_compute_pass transition_buffers
 transition_textures clear_buffer copy_buffer_to_buffer copy_query_results begin_query end_query write_timestamp reset_queries set_bind_group
@@ -25,8 +29,8 @@ STATE = """topology primitive index slot attribute target stencil bias alpha_to_
 has_pass_label instance_mask first_instance_location descriptor word end_of_pass_timestamp clip_distance_count""".split()
 
 
-def oracle(*a, text=None):
-    p = subprocess.run([O, *a], input=text, capture_output=True, text=True)
+def oracle(*a, text=None, build=O):
+    p = subprocess.run([build, *a], input=text, capture_output=True, text=True)
     if p.returncode != 0 or p.stderr:
         sys.exit(f"oracle {' '.join(a)}: {p.returncode}\n{p.stderr}\n{text}")
     return p.stdout
@@ -131,12 +135,19 @@ def sessions():
 def main():
     keep = sys.argv[sys.argv.index("--scripts") + 1] if "--scripts" in sys.argv else None
     if keep: os.makedirs(keep, exist_ok=True)
-    flat, out, index = [], [], ["# number name flags(layout barriers instancing msrtt) room calls refused lists commands"]
+    flat, out, index = [], [], ["# number name flags(layout barriers instancing msrtt) room calls refused lists commands requests(= none)"]
+    tally = requests.Tally()
     for i, (name, lines) in enumerate(sessions()):
         text = "\n".join(lines) + "\n"
         if keep: open(os.path.join(keep, f"{i:03d}.txt"), "w").write(f"# {name}\n{text}")
         f = oracle("flat", "-", text=text)
-        o = oracle("run", "-", "--all", "--bytes", "--queries", "--state", text=text)
+        run = ["run", "-", "--all", "--bytes", "--queries", "--state"]
+        o, p = oracle(*run, text=text), oracle(*run, text=text, build=PUBLISHED)
+        if keep: open(os.path.join(keep, f"{i:03d}.published"), "w").write(p)
+        if f != oracle("flat", "-", text=text, build=PUBLISHED): sys.exit(f"{name}: the two builds have other answers")
+        try: passes, by = requests.hold(f, p, o)
+        except requests.Unequal as e: sys.exit(f"{name}: the two builds differ otherwise than a request allows: {e}")
+        tally.add(passes, by)
         a = [l.split(" ", 1)[0] for l in f.splitlines()[1:]]
         r = sum(x != "0" for x in a)
         if name.startswith("accepted") and r or name.startswith("refused") and not r: sys.exit(f"{name}: {r} refused")
@@ -146,12 +157,12 @@ def main():
         out.append(o + "".join(f"answer {k} {x}\n" for k, x in enumerate(a)) + "===\n")
         h = f.split("\n", 1)[0].split()
         if any(int(x) > y for x, y in zip(h[4:7], (4096, 65536, 1024))): sys.exit(f"{name}: more room than the limits")
-        index.append(f"{i} {name} {''.join(h[:4])} {'/'.join(h[4:7])} {h[7]} {r} {1 + o.count('---' + chr(10))} {sum(l[0].isdigit() for l in o.splitlines())}")
+        index.append(f"{i} {name} {''.join(h[:4])} {'/'.join(h[4:7])} {h[7]} {r} {1 + o.count('---' + chr(10))} {sum(l[0].isdigit() for l in o.splitlines())} {requests.mark(by)}")
     for n, t in (("sessions.flat", "".join(flat)), ("sessions.out", "".join(out)), ("sessions.index", "\n".join(index) + "\n")):
         open(os.path.join(DATA, n), "w").write(t)
-    sys.exit(count())
+    sys.exit(count(tally))
 
-def count():
+def count(tally):
     """Reads the two files again and counts."""
     enum = open(os.path.join(ROOT, "upstream/mod.rs")).read().split("\nenum Command {\n")[1].split("\n}\n")[0]
     enum = re.sub(r"    #\[cfg\(webgl\)\]\n    \w+ \{.*?\n    \},\n", "", enum, flags=re.S)
@@ -176,7 +187,7 @@ def count():
     def need(what, n, least):
         if n < least: bad.append(f"{what}: {n}, at least {least} wanted")
         return n
-    t += [f"sessions {sess}, of them {acc} with accepted calls only and {sess - acc} with refused ones", f"calls {sum(map(sum, calls.values()))}, of them {sum(sum(v[1:]) for v in calls.values())} refused", f"lists {lists}", f"commands {sum(command.values())}", ""]
+    t += [f"sessions {sess}, of them {acc} with accepted calls only and {sess - acc} with refused ones", f"calls {sum(map(sum, calls.values()))}, of them {sum(sum(v[1:]) for v in calls.values())} refused", f"lists {lists}", f"commands {sum(command.values())}", *tally.text().split("\n"), ""]
     need("sessions", sess, 200); need("accepted sessions", acc, 100); need("refused sessions", sess - acc, 100)
     t += ["flags (layout barriers instancing msrtt): sessions accepted, with refused calls"]
     t += [f"  {k} {v[0]} {v[1]}" for k, v in flags.items()]
@@ -196,6 +207,7 @@ def count():
     open(os.path.join(DATA, "counts.txt"), "w").write("\n".join(t) + "\n")
     print("\n".join(t))
     for b in bad: print("TOO FEW", b)
-    return bool(bad)
+    for b in tally.faults(): print("TOO FEW", b)
+    return bool(bad or tally.faults())
 
 main()

@@ -1,9 +1,9 @@
 #!/bin/bash
 # Makes data/sessions.flat, sessions.out, sessions.index and counts.txt anew (README.md, 'The comparison data'),
 # prints the table of counts and fails if one of them is too small.
-# mkdata.sh [--scripts DIR]   DIR: also leave the scripts of all sessions there
+# mkdata.sh [--scripts DIR]   DIR: also leave the scripts of all sessions there, with what the published Rust prints for them
 set -euo pipefail
 cd "$(dirname "$0")/.."
-cargo build --quiet
+tools/build.sh
 python3 tools/mkdata.py "$@"
 python3 tools/flat_check.py data/sessions.flat data/sessions.out

@@ -1,8 +1,8 @@
 #!/usr/bin/env python3
-"""Writes findings/*.txt and FINDINGS.md: each finding with its script and what the oracle gives."""
+"""Writes findings/*.txt and FINDINGS.md: each finding with its script and what the published build gives."""
 import os, subprocess
 ROOT = os.path.dirname(os.path.dirname(os.path.abspath(__file__)))
-O = os.path.join(os.environ.get("CARGO_TARGET_DIR", os.path.join(ROOT, "target")), "debug/oracle")
+O = os.path.join(os.environ.get("CARGO_TARGET_DIR", os.path.join(ROOT, "target")), "published/debug/oracle")
 RELEASE = O[:-len("debug/oracle")] + "release/oracle"
 F = []
 def f(id, title, text, script=None, mode="run", args=""):

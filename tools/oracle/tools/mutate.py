@@ -1,7 +1,8 @@
 #!/usr/bin/env python3
-"""Does the harness have teeth? Builds the oracle from copies of command.rs with one
+"""Does the harness have teeth? Builds the oracle from copies of the published command.rs with one
 fault each (in target/mut; upstream/ is not touched) and says who notices: the model and
-the book in random sessions, the cases, and the sessions of data/ (outputs that differ)."""
+the book in random sessions, the cases, and the sessions of data/ (outputs that differ from the
+published Rust's)."""
 import glob, subprocess, os, shutil
 R = os.path.dirname(os.path.dirname(os.path.abspath(__file__))); W = R + '/target/mut/ws'
 shutil.rmtree(W, ignore_errors=True); os.makedirs(W)
@@ -10,8 +11,7 @@ for d in ('Cargo.toml', '.cargo', 'oracle', 'shims', 'upstream', 'cases', 'tools
 src = open(R + '/upstream/command.rs').read()
 subprocess.run(['tools/mkdata.sh', '--scripts', R + '/target/mut/scripts'], cwd=R, stdout=subprocess.DEVNULL, check=True)
 scripts = sorted(glob.glob(R + '/target/mut/scripts/*.txt'))
-want = [''.join(l + '\n' for l in b.split('\n')[:-1] if not l.startswith('answer ')) for b in open(R + '/data/sessions.out').read().split('===\n')[:-1]]
-assert len(scripts) == len(want)
+want = [open(f[:-len('.txt')] + '.published').read() for f in scripts]
 M = [('M0 none', '', ''),
 ('M1 dirty wholesale at a draw', 'self.state.dirty_vbuf_mask ^= 1 << index;', 'self.state.dirty_vbuf_mask = 0;'),
 ('M2 reference survives', 'self.state.stencil = stencil.clone();', 'let r = self.state.stencil.front.reference; self.state.stencil = stencil.clone(); self.state.stencil.front.reference = r; self.state.stencil.back.reference = r;'),
@@ -26,12 +26,12 @@ M = [('M0 none', '', ''),
 for n, a, b in M:
     assert a == '' or src.count(a) == 1, n
     open(W + '/upstream/command.rs', 'w').write(src.replace(a, b) if a else src)
-    r = subprocess.run(['cargo', 'build', '--target-dir', 'target'], cwd=W, capture_output=True, text=True)
+    r = subprocess.run(['cargo', 'build', '--target-dir', 'target', '--features', 'oracle/published'], cwd=W, capture_output=True, text=True)
     assert r.returncode == 0, r.stderr[-600:]
     o = W + '/target/debug/oracle'
     fz = subprocess.run([o, 'fuzz', '0', '300'], capture_output=True, text=True).stdout.strip().split('\n')[-1]
     bk = subprocess.run([o, 'bookfuzz', '0', '300'], capture_output=True, text=True).stdout.strip().split('\n')[-1] or 'stopped (the model objects first)'
-    cs = subprocess.run(['bash', '-c', f'ORACLE={o} tools/check_cases.sh | grep -c FAIL'], cwd=W, capture_output=True, text=True).stdout.strip()
+    cs = subprocess.run(['bash', '-c', f'PUBLISHED={o} tools/check_cases.sh --published | grep -c FAIL'], cwd=W, capture_output=True, text=True).stdout.strip()
     got = [subprocess.run([o, 'run', f, '--no-model', '--all', '--bytes', '--queries', '--state'], capture_output=True, text=True).stdout for f in scripts]
     ds = sum(g != w for g, w in zip(got, want))
     print(f'{n} | fuzz: {fz} | book: {bk[:100]} | cases failing: {cs} | data differing: {ds} of {len(want)}', flush=True)
