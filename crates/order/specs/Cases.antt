@@ -140,7 +140,7 @@ uint = viewed (Texture 3 3553) 1 kind.Uint false
 abbrev pub float : TextureView
 float = viewed (Texture 1 3553) 1 kind.Float false
 
-abbrev default : TextureView
+abbrev pub default : TextureView
 default = viewed DefaultRenderbuffer 1 kind.Float true
 
 abbrev pub external : TextureView
@@ -205,12 +205,12 @@ cases =
     ∷ records emulated [] (pass (filled uint 10 view.None (colour 0xbff8_0000_0000_0000 0 0 0) ∷ []) target.None)
     (ResetFramebuffer false ∷ BindAttachment 36064 uint None 1 ∷ extents
     ++ SetDrawColorBuffers 1 ∷ ClearColorU 0 (record { r = 0; g = 0; b = 0; a = 0 }) ∷ [])
-    -- P 12: "places [empty, cleared Uint]: draw buffer 0"
+    -- P 12: "places [empty, cleared Uint]", document 02, request 1: draw buffer 1
     ∷ records emulated []
     (pass (noPlace ∷ filled uint 10 view.None (colour 0x401c_0000_0000_0000 0x4020_0000_0000_0000 0x4022_0000_0000_0000 0x4024_0000_0000_0000) ∷ [])
     target.None)
     (ResetFramebuffer false ∷ BindAttachment 36065 uint None 1 ∷ extents
-    ++ SetDrawColorBuffers 2 ∷ ClearColorU 0 (record { r = 7; g = 8; b = 9; a = 10 }) ∷ [])
+    ++ SetDrawColorBuffers 2 ∷ ClearColorU 1 (record { r = 7; g = 8; b = 9; a = 10 }) ∷ [])
     -- ---- the other edges
     -- "Byte offset 252 takes one immediate word; two are refused with 3"
     ∷ records emulated (barePass ∷ set-render-pipeline immediate ∷ []) (set-immediates 252 (lent (305419896 ∷ []))) (SetImmediates last-word 0 ∷ [])

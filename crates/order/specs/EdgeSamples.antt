@@ -32,6 +32,7 @@ use Rattle.records.specs.declared.command.TextureInner.the-variants.{Renderbuff
 use Rattle.records.specs.declared.command.TextureView.{TextureView}
 use Rattle.records.specs.declared.pass.ColorPlace.{ColorPlace}
 use Rattle.records.specs.declared.pass.OptionColorAttachment.the-variants as place
+use Rattle.records.specs.declared.pass.OptionDepthStencil.{OptionDepthStencil}
 use Rattle.records.specs.declared.pass.OptionDepthStencil.the-variants as target
 use Rattle.records.specs.declared.pass.OptionTimestampWrites.{OptionTimestampWrites}
 use Rattle.records.specs.declared.pass.OptionTimestampWrites.the-variants as writes
@@ -87,12 +88,14 @@ passBy width height samples places stamps =
       «timestamp_writes» = stamps;
     }
 
--- a pass with that view for depth and stencil, the operations of both, clear values 0.5 and 3
+-- a view for depth and stencil, the operations of both, clear values 0.5 and 3; a pass with it alone
+abbrev pub half : TextureView → ℕ → ℕ → OptionDepthStencil
+half v depth-ops stencil-ops =
+    target.Some
+    (record { view = v; «depth_ops» = depth-ops; «stencil_ops» = stencil-ops; «clear_depth» = ofBits binary32 0x3f00_0000; «clear_stencil» = 3 })
+
 abbrev pub deep : TextureView → ℕ → ℕ → Call
-deep v depth-ops stencil-ops =
-    pass []
-    (target.Some
-    (record { view = v; «depth_ops» = depth-ops; «stencil_ops» = stencil-ops; «clear_depth» = ofBits binary32 0x3f00_0000; «clear_stencil» = 3 }))
+deep v depth-ops stencil-ops = pass [] (half v depth-ops stencil-ops)
 
 -- slice 5 of the float texture, with its operations, resolved into a view; a pass of such places with four samples
 abbrev pub resolved : ℕ → TextureView → ColorPlace

@@ -16,7 +16,7 @@ use Rattle.records.specs.declared.args.Buffer.{Buffer}
 use Rattle.records.specs.declared.binding.BindingType.the-variants as type
 use Rattle.records.specs.declared.binding.BufferBindingType.the-variants.{Uniform, Storage}
 use Rattle.records.specs.declared.binding.RawBinding.the-variants as content
-use Rattle.records.specs.declared.command.Command.the-variants.{Draw, DrawIndexed, DrawIndirect, DrawIndexedIndirect, Dispatch, DispatchIndirect, ClearBuffer, CopyBufferToBuffer, SetIndexBuffer, BeginQuery, EndQuery, TimestampQuery, CopyQueryResults, ResetFramebuffer, BindAttachment, ResolveAttachment, InvalidateAttachments, SetDrawColorBuffers, ClearColorI, ClearDepth, ClearStencil, BufferBarrier, TextureBarrier, SetViewport, SetScissor, SetStencilFunc, SetStencilOps, SetDepth, ConfigureDepthStencil, SetAlphaToCoverage, SetVertexAttribute, UnsetVertexAttribute, SetProgram, SetBlendConstant, SetColorTarget, BindBuffer, BindSampler, BindTexture, BindImage, PushDebugGroup, PopDebugGroup, SetImmediates, SetClipDistances}
+use Rattle.records.specs.declared.command.Command.the-variants.{Draw, DrawIndexed, DrawIndirect, DrawIndexedIndirect, Dispatch, DispatchIndirect, ClearBuffer, CopyBufferToBuffer, SetIndexBuffer, BeginQuery, EndQuery, TimestampQuery, CopyQueryResults, ResetFramebuffer, BindAttachment, ResolveAttachment, InvalidateAttachments, SetDrawColorBuffers, ClearColorF, ClearColorI, ClearDepth, ClearStencil, BufferBarrier, TextureBarrier, SetViewport, SetScissor, SetStencilFunc, SetStencilOps, SetDepth, ConfigureDepthStencil, SetAlphaToCoverage, SetVertexAttribute, UnsetVertexAttribute, SetProgram, SetBlendConstant, SetColorTarget, BindBuffer, BindSampler, BindTexture, BindImage, PushDebugGroup, PopDebugGroup, SetImmediates, SetClipDistances}
 use Rattle.records.specs.declared.command.OptionU32.the-variants.{None, Some}
 use Rattle.records.specs.declared.command.TextureInner.the-variants.{Texture}
 use Rattle.records.specs.declared.command.VertexStepMode.the-variants.{Vertex, Instance}
@@ -37,8 +37,8 @@ use Rattle.calls.specs.Transfers.{barriersOf, bufferBarrierCommands, textureUse
 use Rattle.calls.specs.Step.{outcomeOf}
 use Rattle.order.specs.Run.{record-calls, fed}
 use Rattle.order.specs.Samples.{board, emulated, bare, lent, noQueries, noLabel, byVertex, attribute, pipeline, entry, bindGroup, A, B, fetching, filled, pass, barePass, drawAt, rect, drawn, bound}
-use Rattle.order.specs.Cases.{Case, seen, said, all-accepted, records, refused, with, masked, differing, float, external, depth-stencil, colour, black, extents}
-use Rattle.order.specs.EdgeSamples.{multisampled, unsynchronized, sint, into, into-buffer, depth-alone, stencil-alone, passBy, deep, resolved, resolving, two-queries, many-queries, labelled, full-bytes, marked, compute, last-slot, attributed, special, keeps, face, two-faced, both-units, unit-4, computing, counting, located, taking, described, sending, buffer, texture, image, sampler, bindOne, shape, grouped, vertices, indices, no-buffer, triangles, cleared, extent}
+use Rattle.order.specs.Cases.{Case, seen, said, all-accepted, records, refused, with, masked, differing, float, default, external, depth-stencil, colour, black, extents}
+use Rattle.order.specs.EdgeSamples.{multisampled, unsynchronized, sint, into, into-buffer, depth-alone, stencil-alone, passBy, half, deep, resolved, resolving, two-queries, many-queries, labelled, full-bytes, marked, compute, last-slot, attributed, special, keeps, face, two-faced, both-units, unit-4, computing, counting, located, taking, described, sending, buffer, texture, image, sampler, bindOne, shape, grouped, vertices, indices, no-buffer, triangles, cleared, extent}
 
 -- ---- the rows
 abbrev edges : List Case
@@ -63,6 +63,18 @@ edges =
     (pass (filled sint 10 view.None (colour 0xbff8_0000_0000_0000 0x41f0_0000_0000_0000 0x7ff8_0000_0000_0000 0x4007_3333_3333_3333) ∷ []) target.None)
     (ResetFramebuffer false ∷ BindAttachment 36064 sint None 1 ∷ extents
     ++ SetDrawColorBuffers 1 ∷ ClearColorI 0 (record { r = negsuc 0; g = pos 2147483647; b = pos 0; a = pos 2 }) ∷ [])
+    -- P4, request 1: [cleared float, empty, cleared Sint] and a cleared depth; seven empty places and a cleared one; the default renderbuffer at place 0
+    ∷ records emulated [] (pass (filled float 10 view.None black ∷ noPlace ∷ filled sint 10 view.None black ∷ []) (half depth-alone 18 17))
+    (ResetFramebuffer false ∷ BindAttachment 36064 float None 1 ∷ BindAttachment 36066 sint None 1 ∷ BindAttachment 36096 depth-alone None 1 ∷ extents
+    ++ SetDrawColorBuffers 3 ∷ cleared ∷ ClearColorI 2 (record { r = pos 0; g = pos 0; b = pos 0; a = pos 0 }) ∷ ClearDepth (ofBits binary32 0x3f00_0000) ∷ [])
+    ∷ records emulated [] (pass (replicate 7 noPlace ++ filled sint 10 view.None black ∷ []) target.None)
+    (ResetFramebuffer false ∷ BindAttachment 36071 sint None 1 ∷ extents ++ SetDrawColorBuffers 8 ∷ ClearColorI 7 (record { r = pos 0; g = pos 0; b = pos 0; a = pos 0 }) ∷ [])
+    ∷ records emulated [] (pass (filled default 10 view.None black ∷ noPlace ∷ filled sint 10 view.None black ∷ []) target.None)
+    (ResetFramebuffer true ∷ extents
+    ++ SetDrawColorBuffers 3
+    ∷ ClearColorF 0 (record { r = ofBits binary32 0; g = ofBits binary32 0; b = ofBits binary32 0; a = ofBits binary32 0; «is_srgb» = true })
+    ∷ ClearColorI 2 (record { r = pos 0; g = pos 0; b = pos 0; a = pos 0 })
+    ∷ [])
     -- T5: a buffer for a texture's, an image's and a sampler's entry
     ∷ refused 5 emulated (barePass ∷ []) (bindOne type.Texture 1 (buffer (pos 0)))
     ∷ refused 5 emulated (barePass ∷ []) (bindOne type.StorageTexture 1 (buffer (pos 0)))

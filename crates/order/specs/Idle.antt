@@ -37,7 +37,7 @@ use Rattle.records.specs.declared.state.VertexState.{VertexState}
 use Rattle.slots.specs.Vertex.{slotAt}
 use Rattle.bindings.specs.Immediates.{immediateCommands}
 use Rattle.pass.specs.Marks.{Lent, Label, queryAt, timestamp, beginTimestamp, pushLabel, popLabel}
-use Rattle.pass.specs.Render.{placesOf, resolvesInPlace, viewOr, attachColor, attachPlace, attachColors, attachDepth, attachments, clears, clearColor, clearPlace, counts, clearColors, clearBoth, clearDepth, resolveCommand, invalidateCommand}
+use Rattle.pass.specs.Render.{placesOf, resolvesInPlace, viewOr, attachColor, attachPlace, attachColors, attachDepth, attachments, clears, clearColor, clearPlace, clearColors, clearBoth, clearDepth, resolveCommand, invalidateCommand}
 use Rattle.calls.specs.Transfers.{Barrier, synchronizes, barrierCommands, bufferBarrierCommands, textureUses, textureBarrierCommands, onBoard, copyCommand, dispatchCommands}
 use Rattle.order.specs.Machine.{Vertices, Machine, exec, play}
 use Rattle.order.specs.Sweep.{play-append}
@@ -114,7 +114,7 @@ idle-place n (place.Some a) m = idle-cond (clears (a .ops)) (clearColor n a (a .
 idle-clears : (n : ℕ) (ps : List ColorPlace) → Idle (clearColors n ps)
 unfolding clearColors
 idle-clears n [] m = refl
-idle-clears n (p ∷ ps) m = idle-append (clearPlace n (p .attachment)) (clearColors (counts n (p .attachment)) ps) (idle-place n (p .attachment)) (idle-clears (counts n (p .attachment)) ps) m
+idle-clears n (p ∷ ps) m = idle-append (clearPlace n (p .attachment)) (clearColors (suc n) ps) (idle-place n (p .attachment)) (idle-clears (suc n) ps) m
 
 idle-both : (s t : Bool) (d : DepthStencilAttachment) → Idle (clearBoth s t d)
 idle-both true true d m = refl

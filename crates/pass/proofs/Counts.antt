@@ -16,7 +16,7 @@ use Rattle.records.specs.declared.pipeline.PrivateCapabilities.{PrivateCapabili
 use Rattle.pass.specs.Render.{placesOf, noPlace, clears, attachColors, attachDepth, clearColors, clearBoth, clearDepth}
 use Rattle.pass.specs.Places.{placeAt, isFilled, hasDepth, clearsDepth}
 use Rattle.pass.specs.Gather.{gather, gather-count}
-use Rattle.pass.specs.Survey.{filledBefore, fillsAt, attachAt, attach-gather, clearsAt, clearAt, fillsIn, clear-gather}
+use Rattle.pass.specs.Survey.{fillsAt, attachAt, attach-gather, clearsAt, clearAt, clear-gather}
 use Rattle.pass.specs.Plan.{filledMask, clearedMask}
 
 pub few-attach : (t : OptionDepthStencil) → length (attachDepth t) ≤ 1
@@ -48,23 +48,10 @@ clear-one (target.Some d) = go (clears (d .«depth_ops»)) (clears (d .«stencil
     go false false = refl
 
 module _ (d : RenderPassDescriptor) where
-  -- the clears, with their draw buffers' numbers
-  pub clear-is : clearColors 0 (placesOf d) ≡ gather clearsAt (clearAt (filledBefore d)) 0 (placesOf d)
-  unfolding maskBy
-  clear-is =
-      clear-gather (filledBefore d) 0 0 (placesOf d)
-      (λ j. ap (λ (n : ℕ). ones (maskOf (tabulate n (fillsIn (placesOf d))))) (zero-add j) ∙ sym (zero-add (ones (maskOf (tabulate j (fillsIn (placesOf d)))))))
-
   module _ (few : length (placesOf d) ≤ 8) where
     pub attach-count : (caps : PrivateCapabilities) (samples : ℕ) → length (attachColors caps samples 0 (placesOf d)) ≡ ones (filledMask d)
     attach-count caps samples =
         ap length (attach-gather caps samples 0 (placesOf d)) ∙ gather-count fillsAt (attachAt caps samples) noPlace (λ i. refl) 8 (placesOf d) few (omega arith)
 
     pub clear-count : length (clearColors 0 (placesOf d)) ≡ ones (clearedMask d)
-    clear-count = ap length clear-is ∙ gather-count clearsAt (clearAt (filledBefore d)) noPlace (λ i. refl) 8 (placesOf d) few (omega arith)
-
-  -- the filled places of the mask below place i
-  pub before-count : (i : ℕ) → i < 8 → ones (maskBy (min i 32) (testBit (filledMask d))) ≡ filledBefore d i
-  before-count i h =
-      let m : min i 32 ≡ i = omega arith in
-      rw m (ap ones (by-alike i (testBit (filledMask d)) (λ j. isFilled (placeAt d j)) (λ j l. by-at 8 (λ j. isFilled (placeAt d j)) j (omega arith))))
+    clear-count = ap length (clear-gather 0 (placesOf d)) ∙ gather-count clearsAt clearAt noPlace (λ i. refl) 8 (placesOf d) few (omega arith)

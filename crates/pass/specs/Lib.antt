@@ -3,6 +3,8 @@ pub mod Render
 pub mod Places
 pub mod Gather
 pub mod Survey
+pub mod Counted
+pub mod Renumbered
 pub mod Resolves
 pub mod Plan
 pub mod End

@@ -194,14 +194,10 @@ abbrev pub clearPlace : ℕ → OptionColorAttachment → List Command
 clearPlace n place.None = []
 clearPlace n (place.Some a) = cond (clears (a .ops)) (clearColor n a (a .view .kind)) []
 
--- "A clear's draw buffer number counts only the filled places"
-abbrev pub counts : ℕ → OptionColorAttachment → ℕ
-counts n place.None = n
-counts n (place.Some a) = suc n
-
+-- document 02, request 1: "a clear's draw buffer is the number of its place, empty places counted"; place i is the first of the list
 unfoldable pub clearColors : ℕ → List ColorPlace → List Command
-clearColors n [] = []
-clearColors n (p ∷ ps) = clearPlace n (p .attachment) ++ clearColors (counts n (p .attachment)) ps
+clearColors i [] = []
+clearColors i (p ∷ ps) = clearPlace i (p .attachment) ++ clearColors (suc i) ps
 
 abbrev pub clearBoth : Bool → Bool → DepthStencilAttachment → List Command
 clearBoth true true d = ClearDepthAndStencil (d .«clear_depth») (d .«clear_stencil») ∷ []
@@ -222,9 +218,9 @@ extentRect e = record { x = pos 0; y = pos 0; w = twos 32 (e .width); h = twos 3
 abbrev pub fullDepth : DepthRange
 fullDepth = record { start = ofBits binary32 0; end = ofBits binary32 0x3f80_0000 }
 
--- "Order recorded: beginning timestamp, label, framebuffer reset, attachments, scissor, viewport, draw buffer count, clears"
-unfoldable pub beginRenderCommands : PrivateCapabilities → RenderPassDescriptor → Label → Lent → ℕ → List Command
-beginRenderCommands caps d label set at =
+-- "Order recorded: beginning timestamp, label, framebuffer reset, attachments, scissor, viewport, draw buffer count, clears", where these are the colours' clears
+abbrev pub beginWith : List Command → PrivateCapabilities → RenderPassDescriptor → Label → Lent → ℕ → List Command
+beginWith colours caps d label set at =
     beginTimestamp set (d .«timestamp_writes»)
     ++ (pushLabel label at
     ++ (ResetFramebuffer (defaultFirst (placesOf d))
@@ -232,7 +228,10 @@ beginRenderCommands caps d label set at =
     ++ (SetScissor (extentRect (d .extent))
     ∷ SetViewport (extentRect (d .extent)) fullDepth
     ∷ (cond (toExternal (placesOf d)) [] (SetDrawColorBuffers (d .«color_attachment_count») ∷ [])
-    ++ (clearColors 0 (placesOf d) ++ clearDepth (d .«depth_stencil_attachment»)))))))
+    ++ (colours ++ clearDepth (d .«depth_stencil_attachment»)))))))
+
+unfoldable pub beginRenderCommands : PrivateCapabilities → RenderPassDescriptor → Label → Lent → ℕ → List Command
+beginRenderCommands caps d label set at = beginWith (clearColors 0 (placesOf d)) caps d label set at
 
 -- what the end of the pass will resolve and invalidate: nothing for the default renderbuffer
 abbrev pub resolvesAtEnd : PrivateCapabilities → RenderPassDescriptor → List ResolveDesc

@@ -1,17 +1,12 @@
 -- The eight colour places of a pass gone through once, as masks; the lists of `Render` by their places. Assumes nothing.
 -- `attach-gather`, `clear-gather`: the attachments are those of the filled places; the clears are those of the cleared places,
--- each to the draw buffer whose number is the count of filled places before it.
-use Prim.Native.Nat.{ℕ, suc, _+_, _*_, _<_}
-use mathlib.Core.Path.{_≡_, refl, sym, ap, ap₂, _∙_}
+-- each to the draw buffer with its place's number.
+use Prim.Native.Nat.{ℕ, suc}
+use mathlib.Core.Path.{_≡_, refl, ap, _∙_}
 use mathlib.Core.Bool.{Bool, true, false, cond, not, _&&_}
 use mathlib.Core.List.{List, [], _∷_, _++_}
-use native.Mathlib.Nat.{add-zero, add-suc, suc-add}
-use native.Mathlib.Omega.{arith}
-use lib.Count.{ones, ones-step}
 use lib.ListN.{getD}
-use Rattle.tables.specs.Tabulate.{tabulate}
-use Rattle.mask.specs.Mask.{digitOf, maskOf, setBitIf}
-use Rattle.mask.specs.Laws.{half-of, low-of}
+use Rattle.mask.specs.Mask.{setBitIf}
 use Rattle.mask.specs.By.{maskBy}
 use Rattle.records.specs.declared.command.Command.{Command}
 use Rattle.records.specs.declared.command.SampleKind.{SampleKind}
@@ -21,7 +16,7 @@ use Rattle.records.specs.declared.pass.OptionColorAttachment.{OptionColorAttach
 use Rattle.records.specs.declared.pass.OptionColorAttachment.the-variants as place
 use Rattle.records.specs.declared.pass.RenderPassDescriptor.{RenderPassDescriptor}
 use Rattle.records.specs.declared.pipeline.PrivateCapabilities.{PrivateCapabilities}
-use Rattle.pass.specs.Render.{noPlace, filledWith, isExternal, isDepth, clears, clearsDepthKind, invalidColor, attachPlace, attachColors, clearColor, clearPlace, clearColors, counts}
+use Rattle.pass.specs.Render.{filledWith, isExternal, isDepth, clears, clearsDepthKind, invalidColor, attachPlace, attachColors, clearColor, clearPlace, clearColors}
 use Rattle.pass.specs.Places.{placeAt, isFilled, isCleared, attachCommand, clearCommand, noCommand}
 use Rattle.pass.specs.Gather.{gather}
 use Rattle.pass.specs.declared.survey.PlaceMasks.{PlaceMasks}
@@ -48,10 +43,6 @@ surveyOne caps i p s =
       wrong = setBitIf (clearsDepthKind p) (s .wrong) i;
     }
 
--- how many of the places before place i are filled: the number of its draw buffer
-abbrev pub filledBefore : RenderPassDescriptor → ℕ → ℕ
-filledBefore d i = ones (maskBy i (λ j. isFilled (placeAt d j)))
-
 -- ---- the attachments
 abbrev pub fillsAt : ℕ → ColorPlace → Bool
 fillsAt i p = isFilled (p .attachment)
@@ -74,8 +65,8 @@ attach-gather caps samples i (p ∷ ps) = go (p .attachment) (attach-gather caps
 abbrev pub clearsAt : ℕ → ColorPlace → Bool
 clearsAt i p = isCleared (p .attachment)
 
-abbrev pub clearAt : (ℕ → ℕ) → ℕ → ColorPlace → Command
-clearAt N i p = clearCommand (N i) (p .attachment)
+abbrev pub clearAt : ℕ → ColorPlace → Command
+clearAt i p = clearCommand i (p .attachment)
 
 one-clear : (n : ℕ) (o : OptionColorAttachment) (l : List Command) → clearPlace n o ++ l ≡ cond (isCleared o) (clearCommand n o ∷ l) l
 one-clear n place.None l = refl
@@ -88,41 +79,9 @@ one-clear n (place.Some a) l = go (clears (a .ops)) (a .view .kind)
     go true kind.Depth = refl
     go false k = refl
 
-abbrev pub fillsIn : List ColorPlace → ℕ → Bool
-fillsIn ps j = isFilled (getD ps j noPlace .attachment)
-
-small : (b : Bool) → digitOf b < 2
-small true = omega arith
-small false = omega arith
-
-ones-more : (b : Bool) (bs : List Bool) → ones (maskOf (b ∷ bs)) ≡ digitOf b + ones (maskOf bs)
-unfolding maskOf
-ones-more b bs =
-    ones-step (maskOf bs * 2 + digitOf b)
-    ∙ ap₂ (λ (x y : ℕ). x + ones y) (low-of (maskOf bs) (digitOf b) (small b)) (half-of (maskOf bs) (digitOf b) (small b))
-
-ones-none : ones (maskOf []) ≡ 0
-unfolding ones maskOf
-ones-none = refl
-
-one-filled : (n : ℕ) (o : OptionColorAttachment) → counts n o ≡ n + digitOf (isFilled o)
-one-filled n place.None = omega arith
-one-filled n (place.Some a) = omega arith
-
-pub clear-gather : (N : ℕ → ℕ) (n i : ℕ) (ps : List ColorPlace) → ((j : ℕ) → N (i + j) ≡ n + ones (maskOf (tabulate j (fillsIn ps))))
-    → clearColors n ps ≡ gather clearsAt (clearAt N) i ps
-unfolding clearColors gather tabulate
-clear-gather N n i [] h = refl
-clear-gather N n i (p ∷ ps) h =
-    one-clear n (p .attachment) (clearColors (counts n (p .attachment)) ps)
-    ∙ ap₂ (λ (m : ℕ) (l : List Command). cond (isCleared (p .attachment)) (clearCommand m (p .attachment) ∷ l) l) (sym here)
-    (clear-gather N (counts n (p .attachment)) (suc i) ps later)
-  where
-    here : N i ≡ n
-    here = ap N (sym (add-zero i)) ∙ h 0 ∙ ap (λ (m : ℕ). n + m) ones-none ∙ add-zero n
-
-    later : (j : ℕ) → N (suc i + j) ≡ counts n (p .attachment) + ones (maskOf (tabulate j (fillsIn ps)))
-    later j =
-        let e = ones-more (isFilled (p .attachment)) (tabulate j (fillsIn ps)) in
-        let c = one-filled n (p .attachment) in
-        ap N (suc-add i j ∙ sym (add-suc i j)) ∙ h (suc j) ∙ omega (arith, e, c)
+pub clear-gather : (i : ℕ) (ps : List ColorPlace) → clearColors i ps ≡ gather clearsAt clearAt i ps
+unfolding clearColors gather
+clear-gather i [] = refl
+clear-gather i (p ∷ ps) =
+    one-clear i (p .attachment) (clearColors (suc i) ps)
+    ∙ ap (λ (l : List Command). cond (isCleared (p .attachment)) (clearCommand i (p .attachment) ∷ l) l) (clear-gather (suc i) ps)

@@ -80,17 +80,17 @@ screen-reset : begins [] ≡ ResetFramebuffer false ∷ SetScissor extent ∷ Se
 unfolding beginRenderCommands attachColors clearColors some?
 screen-reset = refl
 
--- place 1 is attached as such; its clear counts the filled places only
-clear-counts : begins (noPlace ∷ cleared (Texture 7 3553) ∷ [])
+-- place 1 is attached and cleared as such, empty places counted
+clear-places : begins (noPlace ∷ cleared (Texture 7 3553) ∷ [])
     ≡ ResetFramebuffer false
     ∷ BindAttachment 36065 (viewed (Texture 7 3553)) None 1
     ∷ SetScissor extent
     ∷ SetViewport extent fullDepth
     ∷ SetDrawColorBuffers 2
-    ∷ ClearColorU 0 (record { r = 0; g = 0; b = 0; a = 0 })
+    ∷ ClearColorU 1 (record { r = 0; g = 0; b = 0; a = 0 })
     ∷ []
 unfolding beginRenderCommands attachColors clearColors testBit some? clampTo ofBits
-clear-counts = refl
+clear-places = refl
 
 -- a default renderbuffer at another place does not make the framebuffer the default one
 default-later : defaultFirst (noPlace ∷ cleared DefaultRenderbuffer ∷ []) ≡ false

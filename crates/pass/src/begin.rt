@@ -138,7 +138,7 @@ fn setting_at(plan: BeginPlan, d: RenderPassDescriptor, k: u32) -> Command
     } else if k - 2 < plan.buffers {
         draw_buffers(d.color_attachment_count)
     } else {
-        clear_at(d, plan.filled, plan.cleared, k - 2 - plan.buffers)
+        clear_at(d, plan.cleared, k - 2 - plan.buffers)
     }
 }
 

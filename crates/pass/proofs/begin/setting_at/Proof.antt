@@ -63,7 +63,7 @@ returns-4 c =
     stands-right (c .clear-at .result) (a .k) two (drawBuffers d ++ allClears d) (omega (arith, c .before .before .before .before .if2 .left, c .before .before .before .before .before .if1 .left))
     (stands-right (c .clear-at .result) (a .k - 2) (drawBuffers d) (allClears d) (omega (arith, n, c .before .before .if3 .left))
     (subst (λ (m : ℕ). Stands (c .clear-at .result) (a .k - 2 - m) (allClears d)) n
-    (c .clear-at .ensures (ap (λ (p : BeginPlan). p .filled) e) (ap (λ (p : BeginPlan). p .cleared) e))))
+    (c .clear-at .ensures (ap (λ (p : BeginPlan). p .cleared) e))))
 
 pub setting-at-spec : {M : Type 1} → statement M
 setting-at-spec =

@@ -25,16 +25,16 @@ clear-depth-requires c κs = search needs
 
 returns : tie.Need-returns
 returns c =
-    λ e o.
+    λ o.
     let s = c .before .before .before in
     let a = s .args in
     let xs = clearColors 0 (placesOf (a .d)) in
     let n : c .before .before .count .result ≡ length xs = c .before .before .count .ensures ∙ ap ones o ∙ sym (clear-count (a .d) (places-few (a .d) _ (s .good .0))) in
-    stands-left (c .clear-color-at .result) (a .k) xs (clearDepth (a .d .«depth_stencil_attachment»)) (omega (arith, n)) (c .clear-color-at .ensures e o)
+    stands-left (c .clear-color-at .result) (a .k) xs (clearDepth (a .d .«depth_stencil_attachment»)) (omega (arith, n)) (c .clear-color-at .ensures o)
 
 returns-2 : tie.Need-returns-2
 returns-2 c =
-    λ e o.
+    λ o.
     let s = c .before .before .before in
     let a = s .args in
     let t = a .d .«depth_stencil_attachment» in
