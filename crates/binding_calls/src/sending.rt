@@ -2,7 +2,7 @@
 // cite specs/ImmediatePlans.antt.
 ghost use Prim.Native.Nat.{ℕ, _+_, _^_, _<_, _≤_};
 ghost use mathlib.Core.Path.{_≡_};
-ghost use mathlib.Core.Bool.{cond, not, _&&_, false as no};
+ghost use mathlib.Core.Bool.{cond, _&&_};
 ghost use lib.Dec.{ltb, leb};
 ghost use lib.ListN.{length};
 ghost use Rattle.walks.specs.Fill.{filled};
@@ -23,6 +23,7 @@ use calls::judge::spot_of;
 use calls::parts::with_immediates;
 use calls::parts::with_progress;
 use calls::phase::in_pass;
+use calls::phase::range_asks;
 use pass::marks::over_run;
 use records::check::broken_limits;
 use records::check::within;
@@ -31,7 +32,6 @@ use records::command::Record;
 use records::limits::MAX_BYTES;
 use records::limits::MAX_IMMEDIATES;
 use records::limits::MAX_IMMEDIATES_COMMANDS;
-use records::outcome::Conditions;
 use records::outcome::Outcome;
 use records::pipeline::PrivateCapabilities;
 use records::state::Answer;
@@ -181,21 +181,6 @@ fn ends_past(n: usize, used: usize, size: usize) -> bool
     (0 < n) & past_u32(used, size)
 }
 
-// The phase, words out of range, bytes that end past 32 bits, and a count above its run.
-fn immediate_asks(allowed: bool, range: bool, past: bool, short: bool) -> Conditions
-    ensures { λ r. ⌜ r ≡ record { phase = not allowed; many = no; range = range; absent = no; kind = no; sum = past; room = short } ⌝ }
-{
-    Conditions {
-        phase: !allowed,
-        many: false,
-        range,
-        absent: false,
-        kind: false,
-        sum: past,
-        room: short,
-    }
-}
-
 // The new words, or what they were.
 fn taken_words(
     ok: bool,
@@ -228,7 +213,7 @@ pub fn plan_set_immediates(
     let short = over_run(words, count);
     let w = work_out(words, count, old, offset, p.bytes);
     let past = ends_past(w.n, p.bytes, w.size);
-    let c = immediate_asks(in_pass(phase), range, past, short);
+    let c = range_asks(in_pass(phase), range, past, short);
     let state = w.state;
     let placed = w.placed;
     let rooms = byte_rooms(room, bytes_room);

@@ -103,6 +103,10 @@ module _ (rooms : Rooms) (b : Broken) (p : Progress) (c : Conditions) (phase : P
   pub refused : {o : Outcome} → o ≡ verdict → accepted verdict ≡ false → (o ≡ verdict) × (false ≡ accepted verdict) × (p ≡ taken verdict (grown p phase more) p)
   refused e a = (e, sym a, rw a)
 
+-- both definitions of the verdict are one
+pub judged-by : (rooms : Rooms) (s : State) (c : Conditions) (phase : Phase) (more : Counts) → judged rooms s c phase more ≡ judgedBy rooms (brokenLimits s) (s .progress) c phase more
+judged-by rooms s c phase more = refl
+
 module _ (rooms : Rooms) (s : State) (c : Conditions) (phase : Phase) (more : Counts) where
   -- carried through: what it appends has room, and none of its own conditions holds
   pub fitting : accepted (judged rooms s c phase more) ≡ true → Within (grown (s .progress) phase more) rooms

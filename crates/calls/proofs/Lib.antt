@@ -5,3 +5,4 @@ pub mod Plans
 pub mod Listed
 pub mod Moved
 pub mod Alone
+pub mod Began

@@ -1,9 +1,8 @@
 -- Whether a call is carried through: its own conditions, those of the state that it is handed, and room for what it appends. Definitions only.
-use Prim.Native.Nat.{ℕ, _+_}
-use mathlib.Core.Path.{_≡_, refl}
+use Prim.Native.Nat.{_+_}
 use mathlib.Core.Bool.{Bool, cond, not, _||_}
 use Rattle.records.specs.Outcome.{accepted, either, smallest}
-use Rattle.records.specs.Check.{overRoom, brokenLimits, stateConditions}
+use Rattle.records.specs.Check.{overRoom, stateConditions}
 use Rattle.records.specs.declared.check.Broken.{Broken}
 use Rattle.records.specs.declared.check.Rooms.{Rooms}
 use Rattle.records.specs.declared.outcome.Outcome.{Outcome}
@@ -50,9 +49,6 @@ judgedBy rooms b p c phase more =
       sum = c .sum;
       room = overRoom p rooms || (c .room || overRoom (grown p phase more) rooms);
     })
-
-pub judged-by : (rooms : Rooms) (s : State) (c : Conditions) (phase : Phase) (more : Counts) → judged rooms s c phase more ≡ judgedBy rooms (brokenLimits s) (s .progress) c phase more
-judged-by rooms s c phase more = refl
 
 -- what a carried-through call takes, and a refused one leaves
 abbrev pub taken : {A : Type 0} → Outcome → A → A → A

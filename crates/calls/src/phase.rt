@@ -101,9 +101,9 @@ pub fn in_phase_with(allowed: bool, absent: bool) -> Conditions
     }
 }
 
-// The phase, a number past a set, and a count above its run.
-pub fn run_asks(allowed: bool, range: bool, short: bool) -> Conditions
-    ensures { λ r. ⌜ r ≡ record { phase = not allowed; many = no; range = range; absent = no; kind = no; sum = no; room = short } ⌝ }
+// The phase, a number past a set or past its words, an end past 32 bits, and a count above its run.
+pub fn range_asks(allowed: bool, range: bool, sum: bool, short: bool) -> Conditions
+    ensures { λ r. ⌜ r ≡ record { phase = not allowed; many = no; range = range; absent = no; kind = no; sum = sum; room = short } ⌝ }
 {
     Conditions {
         phase: !allowed,
@@ -111,7 +111,14 @@ pub fn run_asks(allowed: bool, range: bool, short: bool) -> Conditions
         range,
         absent: false,
         kind: false,
-        sum: false,
+        sum,
         room: short,
     }
+}
+
+// The phase, a number past a set, and a count above its run.
+pub fn run_asks(allowed: bool, range: bool, short: bool) -> Conditions
+    ensures { λ r. ⌜ r ≡ record { phase = not allowed; many = no; range = range; absent = no; kind = no; sum = no; room = short } ⌝ }
+{
+    range_asks(allowed, range, false, short)
 }

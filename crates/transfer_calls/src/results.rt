@@ -1,6 +1,5 @@
 // `copy_query_results`. The contracts cite calls/specs/Step.antt and Did.antt.
 ghost use Prim.Native.Nat.{_-_};
-ghost use mathlib.Core.Bool.{not, false as no};
 ghost use mathlib.Core.Path.{_≡_};
 ghost use Rattle.calls.specs.Call.{copy-query-results};
 ghost use Rattle.calls.specs.Did.{Resolves};
@@ -20,11 +19,11 @@ use calls::judge::past_u32;
 use calls::judge::query_rooms;
 use calls::judge::spot_of;
 use calls::phase::in_open;
+use calls::phase::range_asks;
 use pass::marks::over_run;
 use records::args::Buffer;
 use records::check::broken_limits;
 use records::command::Record;
-use records::outcome::Conditions;
 use records::pipeline::PrivateCapabilities;
 use records::state::Answer;
 use records::state::State;
@@ -57,22 +56,6 @@ fn queries_over(at: usize, start: u32, end: u32) -> bool
     past_u32(at, asked(start, end))
 }
 
-// The phase, a range past the set, a range of the query list past 32 bits, and a count above its
-// run.
-fn results_asks(allowed: bool, range: bool, sum: bool, short: bool) -> Conditions
-    ensures { λ r. ⌜ r ≡ record { phase = not allowed; many = no; range = range; absent = no; kind = no; sum = sum; room = short } ⌝ }
-{
-    Conditions {
-        phase: !allowed,
-        many: false,
-        range,
-        absent: false,
-        kind: false,
-        sum,
-        room: short,
-    }
-}
-
 pub fn plan_copy_query_results(
     set: &[u32],
     room: usize,
@@ -94,7 +77,7 @@ pub fn plan_copy_query_results(
     let sum = queries_over(p.queries, start, end);
     let short = over_run(set, count);
     let size = query_count(set, count, start, end);
-    let c = results_asks(in_open(phase), range, sum, short);
+    let c = range_asks(in_open(phase), range, sum, short);
     let rooms = query_rooms(room, queries_room);
     let more = one_and(size);
     let broken = broken_limits(s);

@@ -20,8 +20,8 @@ ends-past-requires c κs = search needs
 in-pass-requires : tie.Need-in-pass-requires
 in-pass-requires c κs = search needs
 
-immediate-asks-requires : tie.Need-immediate-asks-requires
-immediate-asks-requires c κs = search needs
+range-asks-requires : tie.Need-range-asks-requires
+range-asks-requires c κs = search needs
 
 byte-rooms-requires : tie.Need-byte-rooms-requires
 byte-rooms-requires c κs = search needs
@@ -52,7 +52,7 @@ returns c =
     let w = working .work-out in
     let v =
     rw (
-      asking .immediate-asks .ensures,
+      asking .range-asks .ensures,
       asking .before .in-pass .ensures,
       asking .before .before .ends-past .ensures,
       working .before .over-run .ensures,
@@ -73,7 +73,7 @@ plan-set-immediates-spec =
     work-out-requires
     ends-past-requires
     in-pass-requires
-    immediate-asks-requires
+    range-asks-requires
     byte-rooms-requires
     broken-limits-requires
     judge-requires

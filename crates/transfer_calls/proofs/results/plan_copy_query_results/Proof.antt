@@ -17,8 +17,8 @@ query-count-requires c κs = search needs
 in-open-requires : tie.Need-in-open-requires
 in-open-requires c κs = search needs
 
-results-asks-requires : tie.Need-results-asks-requires
-results-asks-requires c κs = search needs
+range-asks-requires : tie.Need-range-asks-requires
+range-asks-requires c κs = search needs
 
 query-rooms-requires : tie.Need-query-rooms-requires
 query-rooms-requires c κs = search needs
@@ -52,7 +52,7 @@ returns c =
       asks .before .before .in-open .ensures,
       asks .before .before .before .before .over-run .ensures,
       asks .before .before .before .before .before .queries-over .ensures,
-    ) at (asks .before .results-asks .ensures) in
+    ) at (asks .before .range-asks .ensures) in
     let v = rw (
       asks .query-rooms .ensures,
       c .before .before .before .before .before .before .broken-limits .ensures,
@@ -73,7 +73,7 @@ plan-copy-query-results-spec =
     over-run-requires
     query-count-requires
     in-open-requires
-    results-asks-requires
+    range-asks-requires
     query-rooms-requires
     one-and-requires
     broken-limits-requires
