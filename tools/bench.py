@@ -55,8 +55,8 @@ def build(folder):
 
 
 class Bench:
-    def __init__(self, oracle, program, folder):
-        self.oracle, self.program = oracle, program
+    def __init__(self, oracle, programs, folder):
+        self.oracle, self.programs = oracle, programs
         self.scripts, self.flat = [], []
         for layout in (0, 1):
             path = os.path.join(folder, f"objects{layout}.txt")
@@ -69,27 +69,31 @@ class Bench:
         _, name, layout, count, _ = row
         return run([self.oracle, "bench", name, "--objects", self.scripts[layout], "--count", str(count), *more])
 
-    def mine(self, row, runs, rounds, as_list):
+    def mine(self, program, row, runs, rounds, as_list):
         _, name, layout, count, _ = row
-        return run([self.program], f"{NAMES.index(name)} {count} {runs} {rounds} {as_list}\n" + self.flat[layout])
+        return run([program], f"{NAMES.index(name)} {count} {runs} {rounds} {as_list}\n" + self.flat[layout])
 
     def commands(self, row):
-        """The commands of a session, which must be the same on both sides."""
-        expected, got = self.rust(row, "--list"), self.mine(row, 1, 1, 1)
-        if expected != got:
-            a, b = next((a, b) for a, b in zip(expected.splitlines() + [""], got.splitlines() + [""]) if a != b)
-            stop(f"{row[0]}: the lists differ\n  the Rust: {a}\n  compared: {b}")
+        """The commands of a session, which must be the same on all sides."""
+        expected = self.rust(row, "--list")
+        for program in self.programs:
+            got = self.mine(program, row, 1, 1, 1)
+            if expected != got:
+                a, b = next((a, b) for a, b in zip(expected.splitlines() + [""], got.splitlines() + [""]) if a != b)
+                stop(f"{row[0]}: the lists differ\n  the Rust: {a}\n  compared: {b}")
         return sum(line[:1].isdigit() for line in expected.splitlines())
 
     def times(self, row, repeats):
-        """Nanoseconds a turn: the runs of the Rust, of the Rust with a new list each session, and of this library."""
+        """Nanoseconds a turn: the runs of the Rust, of the Rust with a new list each session, and of each program."""
         count = row[3]
         rounds = max(1, TURNS_OF_A_RUN // count)
         words = ["--runs", str(RUNS), "--rounds", str(rounds)]
-        made = [], [], []
+        sides = [lambda: self.rust(row, *words), lambda: self.rust(row, *words, "--fresh")]
+        sides += [lambda program=program: self.mine(program, row, RUNS, rounds, 0) for program in self.programs]
+        made = [[] for _ in sides]
         for _ in range(repeats):
-            for out, text in zip(made, (self.rust(row, *words), self.rust(row, *words, "--fresh"), self.mine(row, RUNS, rounds, 0))):
-                out += [int(n) / rounds / count for n in text.split()]
+            for out, side in zip(made, sides):
+                out += [int(n) / rounds / count for n in side().split()]
         return made
 
 
@@ -113,24 +117,28 @@ def main():
     parser.add_argument("oracle")
     parser.add_argument("--repeats", type=int, default=7)
     parser.add_argument("--program")
+    parser.add_argument("--before")
     parser.add_argument("rows", metavar="ROW", nargs="*")
     args = parser.parse_intermixed_args()
     unknown = set(args.rows) - {row[0] for row in ROWS}
     if unknown:
         stop(f"no row {', '.join(sorted(unknown))}; there are {', '.join(row[0] for row in ROWS)}")
     with tempfile.TemporaryDirectory() as folder:
-        bench = Bench(args.oracle, args.program or build(folder), folder)
+        program = args.program or build(folder)
+        programs = [args.before, program] if args.before else [program]
+        bench = Bench(args.oracle, programs, folder)
+        heads = ["row", "a turn", "turns of a session", "its commands", "Rust", "Rust, fresh", *["before"][:len(programs) - 1], "this", "ratio of medians"]
         print("ns a turn, smallest/median; fresh: the Rust with a new list for each session, which grows")
-        print("| row | a turn | turns of a session | its commands | Rust | Rust, fresh | this | ratio of medians |")
-        print("|---|---|---|---|---|---|---|---|")
+        print("| " + " | ".join(heads) + " |\n" + "|---" * len(heads) + "|")
         rates = []
         for row in ROWS:
             if args.rows and row[0] not in args.rows:
                 continue
             commands = bench.commands(row)
-            rust, fresh, mine = bench.times(row, args.repeats)
+            made = bench.times(row, args.repeats)
+            rust, mine = made[0], made[-1]
             ratio = statistics.median(mine) / statistics.median(rust)
-            print(f"| {row[0]} | {row[4]} | {row[3]} | {commands} | {shown(rust)} | {shown(fresh)} | {shown(mine)} | {ratio:.1f} |", flush=True)
+            print(f"| {row[0]} | {row[4]} | {row[3]} | {commands} | {' | '.join(map(shown, made))} | {ratio:.1f} |", flush=True)
             if row[1] == "typical":
                 rates.append(f"{row[0]}, {session_calls(row)} calls, {commands} commands: Rust {rate(row, rust)}; this {rate(row, mine)}")
         print("\n".join(rates))

@@ -43,13 +43,14 @@ use Rattle.records.specs.declared.pipeline.OptionStencilState.the-variants as s
 use Rattle.records.specs.declared.pipeline.PrivateCapabilities.{PrivateCapabilities}
 use Rattle.records.specs.declared.pipeline.RenderPipeline.{RenderPipeline}
 use Rattle.records.specs.declared.pipeline.SamplerBind.{SamplerBind}
+use Rattle.records.specs.declared.pipeline.VertexBufferLayout.{VertexBufferLayout}
 use Rattle.bindings.specs.Group.{noGroup}
 use Rattle.pipeline.specs.Inner.{noBind}
 use Rattle.pipeline.specs.Vertex.{noLayout}
 use Rattle.pass.specs.Marks.{Label}
 use Rattle.pass.specs.Render.{noPlace}
-use Rattle.calls.specs.Call.{QuerySet, Call, begin-render-pass, begin-compute-pass, end-compute-pass, set-bind-group, set-render-pipeline, set-compute-pipeline}
-use Rattle.order.specs.Samples.{padded, board, lent, noQueries, noLabel, byVertex, attribute, takes, innerOf, pipelineOf, pipeline, entry, bindGroup, viewed, pass, bound}
+use Rattle.calls.specs.Call.{QuerySet, Call, begin-render-pass, begin-compute-pass, end-compute-pass, set-bind-group, set-render-pipeline, set-vertex-buffer, set-compute-pipeline}
+use Rattle.order.specs.Samples.{padded, board, lent, noQueries, noLabel, byVertex, attribute, takes, innerOf, pipelineOf, pipeline, entry, bindGroup, viewed, pass, barePass, bound}
 use Rattle.order.specs.Cases.{with, float, black}
 
 -- ---- what the rows begin with
@@ -136,6 +137,16 @@ last-slot = pipeline 1 (replicate 15 noLayout ++ byVertex 8 ∷ []) []
 
 abbrev pub attributed : RenderPipeline
 attributed = pipeline 1 (byVertex 8 ∷ []) (attribute 2 0 0 ∷ attribute 5 4 0 ∷ [])
+
+-- slot 0 alone, described so; a pass with buffer 7 at an offset in such a slot; a pass with it at 0 and an attribute with an offset of its own
+abbrev pub stepping : VertexBufferLayout → RenderPipeline
+stepping l = pipeline 1 (l ∷ []) []
+
+abbrev pub at-offset : ℕ → VertexBufferLayout → List Call
+at-offset offset l = barePass ∷ set-render-pipeline (stepping l) ∷ set-vertex-buffer 0 7 offset ∷ []
+
+abbrev pub fetched : VertexBufferLayout → ℕ → List Call
+fetched l offset = barePass ∷ set-render-pipeline (pipeline 1 (l ∷ []) (attribute 0 offset 0 ∷ [])) ∷ set-vertex-buffer 0 7 0 ∷ []
 
 -- a location of the first instance, and a count of clip distances
 abbrev pub special : OptionU32 → ℕ → RenderPipeline

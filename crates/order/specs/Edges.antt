@@ -36,9 +36,9 @@ use Rattle.calls.specs.Draws.{indirectCommands, indexedIndirectCommands}
 use Rattle.calls.specs.Transfers.{barriersOf, bufferBarrierCommands, textureUses, copiesOf}
 use Rattle.calls.specs.Step.{outcomeOf}
 use Rattle.order.specs.Run.{record-calls, fed}
-use Rattle.order.specs.Samples.{board, emulated, bare, lent, noQueries, noLabel, byVertex, attribute, pipeline, entry, bindGroup, A, B, fetching, filled, pass, barePass, drawAt, rect, drawn, bound}
+use Rattle.order.specs.Samples.{board, emulated, bare, lent, noQueries, noLabel, byVertex, byInstance, attribute, pipeline, entry, bindGroup, A, B, fetching, filled, pass, barePass, drawAt, rect, drawn, bound}
 use Rattle.order.specs.Cases.{Case, seen, said, all-accepted, records, refused, with, masked, differing, float, default, external, depth-stencil, colour, black, extents}
-use Rattle.order.specs.EdgeSamples.{multisampled, unsynchronized, sint, into, into-buffer, depth-alone, stencil-alone, passBy, half, deep, resolved, resolving, two-queries, many-queries, labelled, full-bytes, marked, compute, last-slot, attributed, special, keeps, face, two-faced, both-units, unit-4, computing, counting, located, taking, described, sending, buffer, texture, image, sampler, bindOne, shape, grouped, vertices, indices, no-buffer, triangles, cleared, extent}
+use Rattle.order.specs.EdgeSamples.{multisampled, unsynchronized, sint, into, into-buffer, depth-alone, stencil-alone, passBy, half, deep, resolved, resolving, two-queries, many-queries, labelled, full-bytes, marked, compute, last-slot, attributed, stepping, fetched, at-offset, special, keeps, face, two-faced, both-units, unit-4, computing, counting, located, taking, described, sending, buffer, texture, image, sampler, bindOne, shape, grouped, vertices, indices, no-buffer, triangles, cleared, extent}
 
 -- ---- the rows
 abbrev edges : List Case
@@ -335,6 +335,23 @@ edges =
     ∷ records emulated (barePass ∷ set-render-pipeline A ∷ set-vertex-buffer 0 7 18446744073709551575 ∷ []) (drawAt 5)
     (bound 0 18446744073709551615 Instance 8 ∷ drawn 5 ∷ [])
     ∷ refused 6 emulated (barePass ∷ set-render-pipeline A ∷ set-vertex-buffer 0 7 18446744073709551576 ∷ []) (drawAt 5)
+    -- T6, request 4: the largest instance and stride, by vertex and by instance; a product of 4,294,967,295, and more
+    ∷ records emulated (with (stepping (byVertex 4294967295))) (drawAt 4294967295) (bound 0 16 Vertex 4294967295 ∷ drawn 4294967295 ∷ [])
+    ∷ refused 6 emulated (with (stepping (byInstance 4294967295))) (drawAt 4294967295)
+    ∷ records emulated (with (stepping (byInstance 1))) (drawAt 4294967295) (bound 0 4294967311 Instance 1 ∷ drawn 4294967295 ∷ [])
+    ∷ records emulated (with (stepping (byInstance 4294967295))) (drawAt 1) (bound 0 4294967311 Instance 4294967295 ∷ drawn 1 ∷ [])
+    ∷ refused 6 emulated (with (stepping (byInstance 4294967295))) (drawAt 2)
+    ∷ refused 6 emulated (with (stepping (byInstance 2))) (drawAt 2147483648)
+    -- T6, request 4: the largest binding offset, by vertex and by instance
+    ∷ records emulated (at-offset 18446744073709551615 (byVertex 1)) (drawAt 1) (bound 0 18446744073709551615 Vertex 1 ∷ drawn 1 ∷ [])
+    ∷ refused 6 emulated (at-offset 18446744073709551615 (byInstance 1)) (drawAt 1)
+    ∷ records emulated (at-offset 18446744073709551614 (byInstance 1)) (drawAt 1) (bound 0 18446744073709551615 Instance 1 ∷ drawn 1 ∷ [])
+    -- T6, request 4: the same without layout
+    ∷ records bare (fetched (byVertex 4294967295) 4294967295) (drawAt 4294967295)
+    (SetVertexAttribute (Some 7) (record { step = Vertex; stride = 4294967295 }) (attribute 0 4294967295 0) ∷ drawn 4294967295 ∷ [])
+    ∷ records bare (fetched (byInstance 1) 0) (drawAt 4294967295)
+    (SetVertexAttribute (Some 7) (record { step = Instance; stride = 1 }) (attribute 0 4294967295 0) ∷ drawn 4294967295 ∷ [])
+    ∷ refused 6 bare (fetched (byInstance 1) 1) (drawAt 4294967295)
     -- F3: blend constants
     ∷ records emulated (barePass ∷ [])
     (set-blend-constants (record { r = ofBits binary32 0x3f00_0000; g = ofBits binary32 0; b = ofBits binary32 0x3f80_0000; a = ofBits binary32 0x8000_0000 }))

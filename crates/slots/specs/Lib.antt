@@ -1,5 +1,6 @@
 pub mod Vertex
 pub mod Prepare
+pub mod Step
 pub mod Sent
 pub mod Sweep
 pub mod Place

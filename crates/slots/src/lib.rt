@@ -2,7 +2,8 @@
 // are worked out by count and place. The contracts cite specs/Prepare.antt.
 ghost use mathlib.Core.Path.{_≡_};
 ghost use Rattle.slots.specs.Vertex.{slotAt, stepOf};
-ghost use Rattle.slots.specs.Prepare.{working as workingOf, woken as wokenOf, rebound as reboundOf, slotOffset, slotOver, attributeOver};
+ghost use Rattle.slots.specs.Prepare.{working as workingOf, woken as wokenOf, rebound as reboundOf, instanceOffset, slotOffset, slotOver, attributeOver};
+ghost use Rattle.mask.specs.Mask.{digitOf};
 
 pub mod command;
 pub mod prepare;
@@ -66,16 +67,26 @@ pub fn step_of(by_instance: bool) -> VertexStepMode
     }
 }
 
+// The step mode as a number: 1 by instance, 0 by vertex.
+fn step_digit(by_instance: bool) -> u64
+    ensures { λ r. ⌜ r ≡ digitOf «by_instance» ⌝ }
+{
+    by_instance as u64
+}
+
+// How far a description moves its slot on. There is no branch on the step mode.
+pub fn instance_offset(by_instance: bool, w: u32, stride: u32) -> u64
+    ensures { λ r. ⌜ r ≡ instanceOffset (stepOf «by_instance») w stride ⌝ }
+{
+    step_digit(by_instance) * (w as u64) * (stride as u64)
+}
+
 // How far slot i is moved on.
 pub fn slot_offset(v: VertexState, w: u32, i: u32) -> u64
     ensures { λ r. ⌜ r ≡ slotOffset v w i ⌝ }
 {
     let slot = slot_at(v, i);
-    if mask::test(v.by_instance, i) {
-        (w as u64) * (slot.stride as u64)
-    } else {
-        0
-    }
+    instance_offset(mask::test(v.by_instance, i), w, slot.stride)
 }
 
 // Condition 6 of slot i, with layouts.
