@@ -26,6 +26,7 @@ def arguments():
     parser.add_argument("first", metavar="FROM", type=int)
     parser.add_argument("end", metavar="TO", type=int)
     parser.add_argument("--long", action="store_true")
+    parser.add_argument("--even", action="store_true")
     parser.add_argument("--calls", type=int)
     which = parser.add_mutually_exclusive_group()
     which.add_argument("--program", default=os.path.join(os.path.dirname(HERE), "target", "bin", "script"))
@@ -52,7 +53,7 @@ def build(args, folder):
 
 def rust(args, folder, first, end):
     """Writes the files flat, out and index of the seeds, by both builds; answers the index: seed, calls, refused, commands."""
-    options = ["--long"] if args.long else []
+    options = [f"--{name}" for name in ("long", "even") if getattr(args, name)]
     if args.calls is not None:
         options += ["--calls", str(args.calls)]
     for build, ending in ((args.oracle, ""), (args.published, ".published")):
@@ -60,8 +61,6 @@ def rust(args, folder, first, end):
         p = subprocess.run([build, "batch", str(first), str(end), *options, "--flat", files[0], "--out", files[1], "--index", files[2]])
         if p.returncode:
             stop(f"the oracle{ending} failed on the seeds {first} to {end}")
-    if read(folder, "flat") != read(folder, "flat.published") or read(folder, "index") != read(folder, "index.published"):
-        stop(f"the two builds of the Rust make or answer other calls on the seeds {first} to {end}")
     return [tuple(map(int, line.split())) for line in open(os.path.join(folder, "index"))]
 
 
@@ -80,13 +79,16 @@ def sessions(flat):
 
 
 def both_builds(folder, index, tally):
-    """The two builds of the Rust print the same but for what a landed request allows."""
-    texts = [[p.decode() for p in parts(read(folder, name))] for name in ("out.published", "out")]
-    for row, flat, published, requested in itertools.zip_longest(index, sessions(read(folder, "flat")), *texts):
-        if None in (row, flat, published, requested):
+    """The two builds of the Rust make the same calls, and answer and print the same but for what a landed request allows."""
+    both = []
+    for ending in (".published", ""):
+        texts = [p.decode() for p in parts(read(folder, "out" + ending))]
+        both.append(itertools.zip_longest(sessions(read(folder, "flat" + ending)), texts))
+    for row, published, requested in itertools.zip_longest(index, *both):
+        if None in (row, *(published or [None]), *(requested or [None])):
             stop("the two builds of the Rust print other numbers of sessions")
         try:
-            tally.add(*requests.hold(flat, published, requested))
+            tally.add(requests.hold(published, requested))
         except requests.Unequal as e:
             stop(f"seed {row[0]}: the two builds of the Rust differ otherwise than a request allows: {e}")
 
@@ -149,7 +151,7 @@ def main():
     if differ:
         print(told, file=sys.stderr)
     # a long session has so many passes that nearly every one has a clear after an empty place
-    faults = tally.faults(by_pass=args.long)
+    faults = tally.faults(by_pass=args.long, even=args.even)
     for fault in faults:
         print(f"compare: {fault}", file=sys.stderr)
     if differ or faults:

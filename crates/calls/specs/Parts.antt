@@ -1,5 +1,6 @@
 -- The state with one part changed, and what some calls make of a part. Definitions only.
 use Prim.Native.Nat.{ℕ}
+use lib.ListN.{replicate}
 use Rattle.names.specs.Start.{startPrimitiveState}
 use Rattle.names.specs.declared.gl.StencilState.{StencilState}
 use Rattle.records.specs.declared.command.OptionU32.{OptionU32}
@@ -57,6 +58,7 @@ withStencil st f =
     }
 
 -- "`end_render_pass` empties colour targets, both slot masks, primitive, first instance and attribute list, and leaves descriptions and bindings of slots"
+-- document 02, request 5: "a pass end sets all sixteen back to 0"
 abbrev pub endVertex : VertexState → VertexState
 endVertex v =
     record {
@@ -66,7 +68,7 @@ endVertex v =
       «dirty_vbuf_mask» = 0;
       buffers = v .buffers;
       «attribute_count» = 0;
-      «active_first_instance» = 0;
+      instances = replicate 16 0;
       «instance_vbuf_mask» = 0;
       attributes = v .attributes;
     }

@@ -43,7 +43,7 @@ boundSlot i raw offset v =
       «dirty_vbuf_mask» = setBit (v .«dirty_vbuf_mask») i;
       buffers = set (v .buffers) i (record { stride = slotAt v i .stride; raw = raw; offset = offset });
       «attribute_count» = v .«attribute_count»;
-      «active_first_instance» = v .«active_first_instance»;
+      instances = v .instances;
       «instance_vbuf_mask» = v .«instance_vbuf_mask»;
       attributes = v .attributes;
     }

@@ -11,6 +11,7 @@ use Rattle.records.specs.declared.command.Command.the-variants.{DrawIndirect, D
 use Rattle.records.specs.declared.state.Answer.{Answer}
 use Rattle.records.specs.declared.state.State.{State}
 use Rattle.records.specs.declared.state.VertexState.{VertexState}
+use Rattle.slots.specs.Vertex.{stepped}
 use Rattle.slots.specs.Prepare.{prepared, preparedOver}
 use Rattle.slots.specs.Sent.{preparedPlaces}
 use Rattle.draw_calls.specs.declared.drawn.Own.{Own}
@@ -45,21 +46,6 @@ pub record Sound (b : Drawn) : Type 0 where
   pub own-fits : ownOver (b .own) ≡ false
   pub own-small : length (ownCommands (b .own)) < 2 ^ 32
 
--- the vertex part with another dirty mask and active first instance
-abbrev pub stepped : VertexState → ℕ → ℕ → VertexState
-stepped v dirty w =
-    record {
-      described = v .described;
-      bound = v .bound;
-      «by_instance» = v .«by_instance»;
-      «dirty_vbuf_mask» = dirty;
-      buffers = v .buffers;
-      «attribute_count» = v .«attribute_count»;
-      «active_first_instance» = w;
-      «instance_vbuf_mask» = v .«instance_vbuf_mask»;
-      attributes = v .attributes;
-    }
-
 abbrev pub DrawAllowed : Drawn → ℕ → Type 0
 DrawAllowed b i = (i < length (drawnCommands b)) × Sound b
 
@@ -68,7 +54,7 @@ drawnAt b i = getD (drawnCommands b) i PopDebugGroup
 
 -- the state that a plan leaves
 abbrev pub drawNext : DrawPlan → State → State
-drawNext p s = withVertex (stepped (s .vertex) (p .dirty) (p .instance)) (withProgress (p .progress) s)
+drawNext p s = withVertex (stepped (s .vertex) (p .dirty) (p .instances)) (withProgress (p .progress) s)
 
 abbrev pub DrawOf : ℕ → State → Meaning → DrawPlan → Type 0
 DrawOf room s m p = Right room s m (p .outcome) (drawNext p s) (p .batch .at) (p .batch .n) (drawnAt (p .batch)) (DrawAllowed (p .batch))

@@ -18,6 +18,7 @@ use records::outcome::Conditions;
 use records::pipeline::PrivateCapabilities;
 use records::state::State;
 use slots::prepare::prepare;
+use slots::prepare::remembered;
 
 fn pick(ok: bool, new: u32, old: u32) -> u32
     ensures { λ r. ⌜ r ≡ cond ok new old ⌝ }
@@ -60,11 +61,13 @@ pub fn plan_drawing(
     let progress = v.progress;
     let outcome = v.outcome;
     let dirty = pick(v.ok, ready.dirty, vertex.dirty_vbuf_mask);
-    let instance = pick(v.ok, w, vertex.active_first_instance);
+    let bound = pick(v.ok, ready.cleared, 0);
+    let old = vertex.instances;
+    let instances = remembered(old, bound, w);
     DrawPlan {
         progress,
         dirty,
-        instance,
+        instances,
         batch: Drawn {
             at: place.at,
             n: place.n,

@@ -7,12 +7,14 @@ ghost use lib.ListN.{length};
 ghost use Rattle.walks.specs.Fill.{filled};
 ghost use Rattle.slots.specs.Place.{Stands};
 ghost use Rattle.calls.specs.Did.{recordOf};
-ghost use Rattle.draw_calls.specs.Drawn.{ownCommands, ownOver, stepped as steppedOf, DrawAllowed, drawnAt, drawAnswer};
+ghost use Rattle.draw_calls.specs.Drawn.{ownCommands, ownOver, DrawAllowed, drawnAt, drawAnswer};
+ghost use Rattle.slots.specs.Vertex.{stepped as steppedOf};
 use calls::parts::with_progress;
 use calls::parts::with_vertex;
 use records::command::Command;
 use records::command::OptionU32;
 use records::command::Record;
+use records::limits::MAX_VERTEX_BUFFERS;
 use records::outcome::Outcome;
 use records::pipeline::PrivateCapabilities;
 use records::state::Answer;
@@ -54,12 +56,12 @@ pub struct Drawn {
     pub own: Own,
 }
 
-// The progress, the dirty mask and the active first instance after the call: the old ones where it
-// is refused.
+// The progress, the dirty mask and the slots' instances after the call: the old ones where it is
+// refused. Worked out in the plan they keep the call itself small (D75).
 pub struct DrawPlan {
     pub progress: Progress,
     pub dirty: u32,
-    pub instance: u32,
+    pub instances: [u32; MAX_VERTEX_BUFFERS],
     pub batch: Drawn,
     pub outcome: Outcome,
 }
@@ -180,13 +182,13 @@ fn drawn_count(batch: Drawn) -> usize
     batch.n
 }
 
-// The vertex part with this dirty mask and active first instance.
-fn stepped(v: VertexState, dirty: u32, w: u32) -> VertexState
-    ensures { λ r. ⌜ r ≡ steppedOf v dirty w ⌝ }
+// The vertex part with this dirty mask and these instances.
+fn stepped(v: VertexState, dirty: u32, instances: [u32; MAX_VERTEX_BUFFERS]) -> VertexState
+    ensures { λ r. ⌜ r ≡ steppedOf v dirty instances ⌝ }
 {
     let mut next = v;
     next.dirty_vbuf_mask = dirty;
-    next.active_first_instance = w;
+    next.instances = instances;
     next
 }
 
@@ -196,7 +198,8 @@ pub fn draw_answer(plan: DrawPlan, s: State) -> Answer
     let outcome = plan.outcome;
     let progress = plan.progress;
     let vertex = s.vertex;
-    let after = stepped(vertex, plan.dirty, plan.instance);
+    let instances = plan.instances;
+    let after = stepped(vertex, plan.dirty, instances);
     let moved = with_progress(s, progress);
     let state = with_vertex(moved, after);
     Answer { outcome, state }

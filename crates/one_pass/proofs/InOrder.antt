@@ -26,13 +26,13 @@ begins : (caps : PrivateCapabilities) (s : State) (r : Runs) → Did caps s r be
 unfolding outcomeOf
 begins caps s r = keeps-done caps s begin-encoding (λ r. refl) refl refl refl (record { outcome = step caps (roomsOf r) s begin-encoding .outcome; state = begun caps (roomsOf r) s .state }) refl refl r
 
-pub in-order : (room : ℕ) (caps : PrivateCapabilities) (s : State) (calls : List Call) (l : List Record) (bytes : List ℕ) (k : Kept) (bytes′ queries : List ℕ) (D : ℕ → Bool) (R : Records room caps s calls l bytes k bytes′)
+pub in-order : (room : ℕ) (caps : PrivateCapabilities) (s : State) (calls : List Call) (l : List Record) (bytes : List ℕ) (k : Kept) (bytes′ queries : List ℕ) (R : Records room caps s calls l bytes k bytes′)
     → step caps (roomsOf (runsOf room l bytes queries)) s begin-encoding .outcome ≡ Done
-    → Premises caps D empty (answers (R .0 queries))
+    → Premises caps empty (answers (R .0 queries))
     → (length (play fresh (commandsOf (k .answer .state) (runsOf room (k .list) bytes′ queries)) .shots) ≡ length (bookOf caps empty (answers (R .0 queries)) .draws))
     × (found (bookOf caps empty (answers (R .0 queries)) .draws) (play fresh (commandsOf (k .answer .state) (runsOf room (k .list) bytes′ queries)) .shots)
     ≡ named (bookOf caps empty (answers (R .0 queries)) .draws))
-in-order room caps s calls l bytes k bytes′ queries D R e P =
+in-order room caps s calls l bytes k bytes′ queries R e P =
     let r = runsOf room l bytes queries in
-    order-of-run caps s (k .answer .state) r r (runsOf room (k .list) bytes′ queries) (record { outcome = step caps (roomsOf r) s begin-encoding .outcome; state = begun caps (roomsOf r) s .state }) calls D
+    order-of-run caps s (k .answer .state) r r (runsOf room (k .list) bytes′ queries) (record { outcome = step caps (roomsOf r) s begin-encoding .outcome; state = begun caps (roomsOf r) s .state }) calls
     (begins caps s r) e (R .0 queries) P

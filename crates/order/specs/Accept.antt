@@ -81,29 +81,26 @@ resumed (draw-indexed-indirect raw offset n) m = m
 resumed (dispatch-workgroups x y z) m = m
 resumed (dispatch-workgroups-indirect raw offset) m = m
 
-working-zero : (caps : PrivateCapabilities) (instance : ℕ) → caps .«fully_featured_instancing» ≡ true → working caps instance ≡ 0
-working-zero caps instance e = ap (λ (t : Bool). cond t 0 instance) e
-
 -- the two indirect draws
-module _ (caps : PrivateCapabilities) (D : ℕ → Bool) (s : State) (m : Machine) (b : Book) (T : Tied caps D s m b) (ph : s .progress .phase ≡ Render) where
+module _ (caps : PrivateCapabilities) (s : State) (m : Machine) (b : Book) (T : Tied caps s m b) (ph : s .progress .phase ≡ Render) where
   indirect-is : (raw offset count n k l : ℕ) → (b .stage ≡ first → 0 < count → Ready b)
-      → Tied caps D (withProgress (record { phase = s .progress .phase; commands = n; bytes = k; queries = l }) (drawn caps 0 s))
+      → Tied caps (withProgress (record { phase = s .progress .phase; commands = n; bytes = k; queries = l }) (drawn caps 0 s))
       (play m (prepared caps (s .vertex) 0 ++ indirectCommands (drawArgs (s .draw)) raw offset count)) (enter caps b (draw-indirect raw offset count))
   unfolding indirectCommands
   indirect-is raw offset count n k l ready =
-      by-indirect caps D s m b T ph false (λ a i. DrawIndirect (a .topology) raw (offset + i * 16) (a .location)) count ready (λ a i x. refl) n k l
+      by-indirect caps s m b T ph false (λ a i. DrawIndirect (a .topology) raw (offset + i * 16) (a .location)) count ready (λ a i x. refl) n k l
 
   indexed-indirect-is : (raw offset count n k l : ℕ) → (b .stage ≡ first → 0 < count → Ready b)
-      → Tied caps D (withProgress (record { phase = s .progress .phase; commands = n; bytes = k; queries = l }) (drawn caps 0 s))
+      → Tied caps (withProgress (record { phase = s .progress .phase; commands = n; bytes = k; queries = l }) (drawn caps 0 s))
       (play m (prepared caps (s .vertex) 0 ++ indexedIndirectCommands (drawArgs (s .draw)) raw offset count)) (enter caps b (draw-indexed-indirect raw offset count))
   unfolding indexedIndirectCommands
   indexed-indirect-is raw offset count n k l ready =
       subst (λ (t : ℕ). Left (λ i. DrawIndexedIndirect (argsOf b .topology) t raw (offset + i * 20) (argsOf b .location))) (sym (type-is (b .format)))
-      (by-indirect caps D s m b T ph true (λ a i. DrawIndexedIndirect (a .topology) (indexType (a .format)) raw (offset + i * 20) (a .location)) count ready (λ a i x. refl) n k l)
+      (by-indirect caps s m b T ph true (λ a i. DrawIndexedIndirect (a .topology) (indexType (a .format)) raw (offset + i * 20) (a .location)) count ready (λ a i x. refl) n k l)
     where
       Left : (ℕ → Command) → Type 0
       Left c =
-          Tied caps D (withProgress (record { phase = s .progress .phase; commands = n; bytes = k; queries = l }) (drawn caps 0 s))
+          Tied caps (withProgress (record { phase = s .progress .phase; commands = n; bytes = k; queries = l }) (drawn caps 0 s))
           (play m (prepared caps (s .vertex) 0 ++ tabulate count (λ i. DrawIndexedIndirect (s .draw .topology) (indexType (s .draw .«index_format»)) raw (offset + i * 20) (s .draw .«first_instance_location»)))) (enterDraws true c count b)
 
 -- the index offset and type of an indexed draw, in the book's words
@@ -124,23 +121,23 @@ entries-are l i e g low there =
     (ap (λ (t : Bool). zipped (cond t (take (groupAt l i .«entry_count») (e .entries)) []) (take (g .«content_count») (g .contents))) present
     ∙ ap (λ (x : GroupShape). zipped (take (x .«entry_count») (e .entries)) (take (g .«content_count») (g .contents))) group)
 
-module _ (caps : PrivateCapabilities) (D : ℕ → Bool) (rooms : Rooms) (s : State) (m : Machine) (b : Book) (T : Tied caps D s m b) where
+module _ (caps : PrivateCapabilities) (rooms : Rooms) (s : State) (m : Machine) (b : Book) (T : Tied caps s m b) where
   -- what an accepted call leaves
   abbrev Kept : Call → Type 0
-  Kept c = Tied caps D (withProgress (progressAfter (meaning caps s c)) (meaning caps s c .after)) (play (resumed c m) (meaning caps s c .commands)) (enter caps b c)
+  Kept c = Tied caps (withProgress (progressAfter (meaning caps s c)) (meaning caps s c .after)) (play (resumed c m) (meaning caps s c .commands)) (enter caps b c)
 
-  still : (cs : List Command) → Idle cs → (n k l : ℕ) → Tied caps D (withProgress (record { phase = s .progress .phase; commands = n; bytes = k; queries = l }) s) (play m cs) b
-  still cs h n k l = idles caps D s m b T cs h (s .pass) (s .immediates) n k l
+  still : (cs : List Command) → Idle cs → (n k l : ℕ) → Tied caps (withProgress (record { phase = s .progress .phase; commands = n; bytes = k; queries = l }) s) (play m cs) b
+  still cs h n k l = idles caps s m b T cs h (s .pass) (s .immediates) n k l
 
-  pub accepts : (c : Call) → accepted (outcomeOf rooms s (meaning caps s c)) ≡ true → Premise caps D b c → Kept c
-  accepts begin-encoding e P = started caps D 0 0 0
-  accepts end-encoding e P = moves caps D s m b T [] (λ x. refl) Closed (λ st f. f) (λ st. tt) (s .pass) _ _ _
-  accepts end-render-pass e P = by-end-render caps D s m b T (render-is (s .progress .phase) (in-phase rooms s (meaning caps s end-render-pass) e)) (endRenderPass (s .pass)) _ _ _
+  pub accepts : (c : Call) → accepted (outcomeOf rooms s (meaning caps s c)) ≡ true → Premise b c → Kept c
+  accepts begin-encoding e P = started caps 0 0 0
+  accepts end-encoding e P = moves caps s m b T [] (λ x. refl) Closed (λ st f. f) (λ st. tt) (s .pass) _ _ _
+  accepts end-render-pass e P = by-end-render caps s m b T (render-is (s .progress .phase) (in-phase rooms s (meaning caps s end-render-pass) e)) (endRenderPass (s .pass)) _ _ _
   accepts end-compute-pass e P =
-      moves caps D s m b T (popLabel (s .pass .«has_pass_label») ++ timestamp (s .pass .«end_of_pass_timestamp»)) (idle-append (popLabel (s .pass .«has_pass_label»)) (timestamp (s .pass .«end_of_pass_timestamp»)) (idle-pop (s .pass .«has_pass_label»)) (idle-timestamp (s .pass .«end_of_pass_timestamp»))) Open (λ st f. f) (λ st. tt) (endComputePass (s .pass)) _ _ _
-  accepts (begin-render-pass d label set) e P = by-begin-render caps D s m b T d label set (s .progress .bytes) _ _ _ _
+      moves caps s m b T (popLabel (s .pass .«has_pass_label») ++ timestamp (s .pass .«end_of_pass_timestamp»)) (idle-append (popLabel (s .pass .«has_pass_label»)) (timestamp (s .pass .«end_of_pass_timestamp»)) (idle-pop (s .pass .«has_pass_label»)) (idle-timestamp (s .pass .«end_of_pass_timestamp»))) Open (λ st f. f) (λ st. tt) (endComputePass (s .pass)) _ _ _
+  accepts (begin-render-pass d label set) e P = by-begin-render caps s m b T d label set (s .progress .bytes) _ _ _ _
   accepts (begin-compute-pass t label set) e P =
-      moves caps D s m b T (beginTimestamp set t ++ pushLabel label (s .progress .bytes)) (idle-append (beginTimestamp set t) (pushLabel label (s .progress .bytes)) (idle-begin set t) (idle-push label (s .progress .bytes))) Compute (λ st f. f) (λ st. tt) _ _ _ _
+      moves caps s m b T (beginTimestamp set t ++ pushLabel label (s .progress .bytes)) (idle-append (beginTimestamp set t) (pushLabel label (s .progress .bytes)) (idle-begin set t) (idle-push label (s .progress .bytes))) Compute (λ st f. f) (λ st. tt) _ _ _ _
   accepts (transition-buffers l) e P = still (meaning caps s (transition-buffers l) .commands) (idle-buffers caps (bufferBarriers l)) _ _ _
   accepts (transition-textures l) e P = still (meaning caps s (transition-textures l) .commands) (idle-textures caps l) _ _ _
   accepts (clear-buffer x range) e P = still (meaning caps s (clear-buffer x range) .commands) (λ n. refl) _ _ _
@@ -158,32 +155,32 @@ module _ (caps : PrivateCapabilities) (D : ℕ → Bool) (rooms : Rooms) (s : St
       let named : groupBound xs (counted os) (b .bound) ≡ enterGroup (entriesIn l i x) (take (g .«content_count») (g .contents)) (counted os) (b .bound) =
       ap (λ (ys : List Entry). groupBound ys (counted os) (b .bound)) (sym (entries-are l i x g (or-left (leb (l .«group_count») i) (some? entryOutOfRange xs) r) there))
       ∙ sym (group-is (entriesIn l i x) (take (g .«content_count») (g .contents)) (counted os) (b .bound)) in
-      subst (λ (y : Bound). Tied caps D (withProgress (progressAfter q) (q .after)) (play m (q .commands)) (withBound y b)) named
-      (by-bind-group caps D s m b T xs (counted os) (or-right (leb (l .«group_count») i) (some? entryOutOfRange xs) r) _ _ _)
-  accepts (set-immediates offset ws) e P = idles caps D s m b T (meaning caps s (set-immediates offset ws) .commands) (idle-immediates (descriptorsOf (s .immediates)) (s .progress .bytes)) (s .pass) (immediatesState (s .immediates) offset (counted ws)) _ _ _
+      subst (λ (y : Bound). Tied caps (withProgress (progressAfter q) (q .after)) (play m (q .commands)) (withBound y b)) named
+      (by-bind-group caps s m b T xs (counted os) (or-right (leb (l .«group_count») i) (some? entryOutOfRange xs) r) _ _ _)
+  accepts (set-immediates offset ws) e P = idles caps s m b T (meaning caps s (set-immediates offset ws) .commands) (idle-immediates (descriptorsOf (s .immediates)) (s .progress .bytes)) (s .pass) (immediatesState (s .immediates) offset (counted ws)) _ _ _
   accepts (set-render-pipeline p) e P =
       let q = meaning caps s (set-render-pipeline p) in
       let r = in-range rooms s q e in
-      by-render-pipeline caps D s m b T (render-is (s .progress .phase) (in-phase rooms s q e)) p (or-left (vertexOutOfRange p) (innerOutOfRange (p .inner)) r) (or-right (vertexOutOfRange p) (innerOutOfRange (p .inner)) r) (present rooms s q e) (kinds rooms s q e) (λ st layout emulated i low. sym (described-is p i) ∙ P st layout emulated i low) _ _ _
-  accepts (set-compute-pipeline p) e P = by-compute-pipeline caps D s m b T (compute-is (s .progress .phase) (in-phase rooms s (meaning caps s (set-compute-pipeline p)) e)) (p .inner) _ _ _
-  accepts (set-index-buffer raw offset format) e P = by-index-buffer caps D s m b T raw offset format _ _ _
+      by-render-pipeline caps s m b T (render-is (s .progress .phase) (in-phase rooms s q e)) p (or-left (vertexOutOfRange p) (innerOutOfRange (p .inner)) r) (or-right (vertexOutOfRange p) (innerOutOfRange (p .inner)) r) (present rooms s q e) (kinds rooms s q e) _ _ _
+  accepts (set-compute-pipeline p) e P = by-compute-pipeline caps s m b T (compute-is (s .progress .phase) (in-phase rooms s (meaning caps s (set-compute-pipeline p)) e)) (p .inner) _ _ _
+  accepts (set-index-buffer raw offset format) e P = by-index-buffer caps s m b T raw offset format _ _ _
   accepts (set-vertex-buffer i raw offset) e P =
       let q = meaning caps s (set-vertex-buffer i raw offset) in
-      by-vertex-buffer caps D s m b T (render-is (s .progress .phase) (in-phase rooms s q e)) i raw offset (leb-false 16 i (in-range rooms s q e)) _ _ _
-  accepts (set-viewport r d) e P = by-screen caps D s m b T _ _ _ _ refl (T .screen .scissor) (T .screen .blend) _ _ _
-  accepts (set-scissor-rect r) e P = by-screen caps D s m b T _ _ _ _ (T .screen .viewport) refl (T .screen .blend) _ _ _
-  accepts (set-stencil-reference v) e P = by-reference caps D s m b T v _ _ _
-  accepts (set-blend-constants c) e P = by-screen caps D s m b T _ _ _ _ (T .screen .viewport) (T .screen .scissor) refl _ _ _
+      by-vertex-buffer caps s m b T (render-is (s .progress .phase) (in-phase rooms s q e)) i raw offset (leb-false 16 i (in-range rooms s q e)) _ _ _
+  accepts (set-viewport r d) e P = by-screen caps s m b T _ _ _ _ refl (T .screen .scissor) (T .screen .blend) _ _ _
+  accepts (set-scissor-rect r) e P = by-screen caps s m b T _ _ _ _ (T .screen .viewport) refl (T .screen .blend) _ _ _
+  accepts (set-stencil-reference v) e P = by-reference caps s m b T v _ _ _
+  accepts (set-blend-constants c) e P = by-screen caps s m b T _ _ _ _ (T .screen .viewport) (T .screen .scissor) refl _ _ _
   accepts (draw vertex vertices instance instances) e P =
-      by-draw caps D s m b T (render-is (s .progress .phase) (in-phase rooms s (meaning caps s (draw vertex vertices instance instances)) e)) (working caps instance) (working-zero caps instance) P
+      by-draw caps s m b T (render-is (s .progress .phase) (in-phase rooms s (meaning caps s (draw vertex vertices instance instances)) e)) (working caps instance) P
       false (λ a. drawCommand a vertex vertices instance instances) (λ a x. refl) _ _ _
   accepts (draw-indexed fst count base instance instances) e P =
       let q = meaning caps s (draw-indexed fst count base instance instances) in
-      subst (λ (c : Command). Tied caps D (withProgress (progressAfter q) (q .after)) (play m (q .commands)) (enterDraw (working caps instance) true c b)) (indexed-command b fst count base instance instances)
-      (by-draw caps D s m b T (render-is (s .progress .phase) (in-phase rooms s q e)) (working caps instance) (working-zero caps instance) P
+      subst (λ (c : Command). Tied caps (withProgress (progressAfter q) (q .after)) (play m (q .commands)) (enterDraw (working caps instance) true c b)) (indexed-command b fst count base instance instances)
+      (by-draw caps s m b T (render-is (s .progress .phase) (in-phase rooms s q e)) (working caps instance) P
       true (λ a. drawIndexedCommand a fst count base instance instances) (λ a x. refl) _ _ _)
-  accepts (draw-indirect raw offset n) e P = indirect-is caps D s m b T (render-is (s .progress .phase) (in-phase rooms s (meaning caps s (draw-indirect raw offset n)) e)) raw offset n _ _ _ P
+  accepts (draw-indirect raw offset n) e P = indirect-is caps s m b T (render-is (s .progress .phase) (in-phase rooms s (meaning caps s (draw-indirect raw offset n)) e)) raw offset n _ _ _ P
   accepts (draw-indexed-indirect raw offset n) e P =
-      indexed-indirect-is caps D s m b T (render-is (s .progress .phase) (in-phase rooms s (meaning caps s (draw-indexed-indirect raw offset n)) e)) raw offset n _ _ _ P
+      indexed-indirect-is caps s m b T (render-is (s .progress .phase) (in-phase rooms s (meaning caps s (draw-indexed-indirect raw offset n)) e)) raw offset n _ _ _ P
   accepts (dispatch-workgroups x y z) e P = still (meaning caps s (dispatch-workgroups x y z) .commands) (idle-dispatch x y z) _ _ _
   accepts (dispatch-workgroups-indirect raw offset) e P = still (meaning caps s (dispatch-workgroups-indirect raw offset) .commands) (λ n. refl) _ _ _

@@ -130,13 +130,13 @@ play-end p l m =
     stamp : List Command
     stamp = timestamp (p .«end_of_pass_timestamp»)
 
-module _ (caps : PrivateCapabilities) (D : ℕ → Bool) (s : State) (m : Machine) (b : Book) (T : Tied caps D s m b) where
+module _ (caps : PrivateCapabilities) (s : State) (m : Machine) (b : Book) (T : Tied caps s m b) where
   pub by-begin-render : (d : RenderPassDescriptor) (label : Label) (set : Lent) (at : ℕ) (pass : PassState) (n k l : ℕ)
-      → Tied caps D (withProgress (counted Render n k l) (withPass pass s)) (play m (beginRenderCommands caps d label set at))
+      → Tied caps (withProgress (counted Render n k l) (withPass pass s)) (play m (beginRenderCommands caps d label set at))
       (inStage (nextStage (b .stage)) (withScreen (some (record { rect = extentRect (d .extent); depth = fullDepth })) (some (extentRect (d .extent))) (b .blend) b))
   by-begin-render d label set at pass n k l =
       subst
-      (λ (x : Machine). Tied caps D (withProgress (counted Render n k l) (withPass pass s)) x
+      (λ (x : Machine). Tied caps (withProgress (counted Render n k l) (withPass pass s)) x
       (inStage (nextStage (b .stage)) (withScreen (some (record { rect = extentRect (d .extent); depth = fullDepth })) (some (extentRect (d .extent))) (b .blend) b)))
       (sym (play-begin caps d label set at m))
       (record {
@@ -148,16 +148,16 @@ module _ (caps : PrivateCapabilities) (D : ℕ → Bool) (s : State) (m : Machin
         args = record { format = T .args .format; offset = T .args .offset };
         units = T .units;
         lazy = T .lazy;
+        steady = T .steady;
         early = λ e. absurd (not-early (b .stage) e);
-        slots = λ f. let E = T .early (begins (b .stage) f) in slots-start caps D (s .vertex) (m .gl .vertices) (b .buffer) (E .vertex) (E .empty);
-        bare = λ f e i. let E = T .early (begins (b .stage) f) in ap (λ (v : VertexState). testBit (v .described) i) (E .vertex) ∙ test-zero i;
+        slots = λ f. let E = T .early (begins (b .stage) f) in slots-start caps (s .vertex) (m .gl .vertices) (b .buffer) (E .vertex) (E .empty);
         piped = λ f p e. none-some (sym (T .early (begins (b .stage) f) .unset) ∙ e);
       })
 
   pub by-end-render : s .progress .phase ≡ Render → (pass : PassState) (n k l : ℕ)
-      → Tied caps D (withProgress (counted Open n k l) (withVertex (endVertex (s .vertex)) (withFixed (endFixed (s .fixed)) (withPass pass s)))) (play m (endRenderCommands (s .pass) (map unsetAttribute (attributesOf (s .vertex))))) b
+      → Tied caps (withProgress (counted Open n k l) (withVertex (endVertex (s .vertex)) (withFixed (endFixed (s .fixed)) (withPass pass s)))) (play m (endRenderCommands (s .pass) (map unsetAttribute (attributesOf (s .vertex))))) b
   by-end-render ph pass n k l =
-      subst (λ (x : Machine). Tied caps D (withProgress (counted Open n k l) (withVertex (endVertex (s .vertex)) (withFixed (endFixed (s .fixed)) (withPass pass s)))) x b) (sym (play-end (s .pass) (attributesOf (s .vertex)) m))
+      subst (λ (x : Machine). Tied caps (withProgress (counted Open n k l) (withVertex (endVertex (s .vertex)) (withFixed (endFixed (s .fixed)) (withPass pass s)))) x b) (sym (play-end (s .pass) (attributesOf (s .vertex)) m))
       (record {
         stage = T .stage;
         sane = tt;
@@ -167,17 +167,17 @@ module _ (caps : PrivateCapabilities) (D : ℕ → Bool) (s : State) (m : Machin
         args = T .args;
         units = T .units;
         lazy = record { bias = T .lazy .bias; alpha = T .lazy .alpha; clip = T .lazy .clip; targets = nothing (m .gl .fixed .target); primitive = λ ne. absurd (ne refl) };
+        steady = record { long = T .steady .long };
         early = λ e. absurd (late (b .stage) (subst (λ (p : Phase). Sane p (b .stage)) ph (T .sane)) e);
         slots = λ f. absurd f;
-        bare = λ f. absurd f;
         piped = λ f. absurd f;
       })
 
   -- ---- bind groups
   pub by-bind-group : (xs : List Entry) (os : List ℕ) → some? entryOutOfRange xs ≡ false → (n k l : ℕ)
-      → Tied caps D (withProgress (counted (s .progress .phase) n k l) (withBind (groupState xs (s .bind)) s)) (play m (bindGroupCommands xs os (s .bind))) (withBound (groupBound xs os (b .bound)) b)
+      → Tied caps (withProgress (counted (s .progress .phase) n k l) (withBind (groupState xs (s .bind)) s)) (play m (bindGroupCommands xs os (s .bind))) (withBound (groupBound xs os (b .bound)) b)
   by-bind-group xs os ok n k l =
-      subst (λ (x : Machine). Tied caps D (withProgress (counted (s .progress .phase) n k l) (withBind (groupState xs (s .bind)) s)) x (withBound (groupBound xs os (b .bound)) b))
+      subst (λ (x : Machine). Tied caps (withProgress (counted (s .progress .phase) n k l) (withBind (groupState xs (s .bind)) s)) x (withBound (groupBound xs os (b .bound)) b))
       (sym (play-bind-group xs os (groupState xs (s .bind)) mask m))
       (record {
         stage = T .stage;
@@ -188,9 +188,9 @@ module _ (caps : PrivateCapabilities) (D : ℕ → Bool) (s : State) (m : Machin
         args = record { format = T .args .format; offset = T .args .offset };
         units = units-grouped xs os (s .bind) (m .gl .bindings) (b .bound) ok (T .units) (groupPlayed xs os (m .gl .bindings)) (group-samplers xs os (m .gl .bindings));
         lazy = T .lazy;
+        steady = T .steady;
         early = T .early;
         slots = T .slots;
-        bare = T .bare;
         piped = λ f p e.
             let P = T .piped f p e in
             record {
@@ -199,7 +199,6 @@ module _ (caps : PrivateCapabilities) (D : ℕ → Bool) (s : State) (m : Machin
               stenciled = P .stenciled;
               numbered = record { number = λ u h. R .numbers u ∙ P .numbered .number u h; low = P .numbered .low };
               fetched = P .fetched;
-              describes = P .describes;
             };
       })
     where
@@ -211,10 +210,10 @@ module _ (caps : PrivateCapabilities) (D : ℕ → Bool) (s : State) (m : Machin
 
   -- ---- a compute pipeline
   pub by-compute-pipeline : s .progress .phase ≡ Compute → (p : PipelineInner) (n k l : ℕ)
-      → Tied caps D (withProgress (counted (s .progress .phase) n k l) (withDraw (withLocation (p .«first_instance_location») (s .draw)) (withBind (innerBind p (s .bind)) (withImmediates (innerImmediates p (s .immediates)) s))))
+      → Tied caps (withProgress (counted (s .progress .phase) n k l) (withDraw (withLocation (p .«first_instance_location») (s .draw)) (withBind (innerBind p (s .bind)) (withImmediates (innerImmediates p (s .immediates)) s))))
       (play m (innerCommands p (s .bind))) b
   by-compute-pipeline ph p n k l =
-      subst (λ (x : Machine). Tied caps D (withProgress (counted (s .progress .phase) n k l) (withDraw (withLocation (p .«first_instance_location») (s .draw)) (withBind (innerBind p (s .bind)) (withImmediates (innerImmediates p (s .immediates)) s)))) x b)
+      subst (λ (x : Machine). Tied caps (withProgress (counted (s .progress .phase) n k l) (withDraw (withLocation (p .«first_instance_location») (s .draw)) (withBind (innerBind p (s .bind)) (withImmediates (innerImmediates p (s .immediates)) s)))) x b)
       (sym (play-samplers (innerBind p (s .bind)) (changedUnits p (s .bind)) (withGlFixed (putProgram (p .program) (m .gl .fixed)) m)))
       (record {
         stage = T .stage;
@@ -225,15 +224,15 @@ module _ (caps : PrivateCapabilities) (D : ℕ → Bool) (s : State) (m : Machin
         args = record { format = T .args .format; offset = T .args .offset };
         units = units-piped p (s .bind) (m .gl .bindings) (b .bound .samplers) (T .units);
         lazy = record { bias = T .lazy .bias; alpha = T .lazy .alpha; clip = T .lazy .clip; targets = T .lazy .targets; primitive = T .lazy .primitive };
+        steady = record { long = T .steady .long };
         early = T .early;
         slots = λ f. absurd (subst (λ (q : Phase). First q (b .stage)) ph f);
-        bare = λ f. absurd (subst (λ (q : Phase). First q (b .stage)) ph f);
         piped = λ f. absurd (subst (λ (q : Phase). First q (b .stage)) ph f);
       })
 
   -- ---- settings
   pub by-index-buffer : (raw offset : ℕ) (format : IndexFormat) (n k l : ℕ)
-      → Tied caps D (withProgress (counted (s .progress .phase) n k l) (withDraw (indexed offset format (s .draw)) s)) (exec m (SetIndexBuffer raw)) (withIndex raw format offset b)
+      → Tied caps (withProgress (counted (s .progress .phase) n k l) (withDraw (indexed offset format (s .draw)) s)) (exec m (SetIndexBuffer raw)) (withIndex raw format offset b)
   by-index-buffer raw offset format n k l =
       record {
         stage = T .stage;
@@ -244,9 +243,9 @@ module _ (caps : PrivateCapabilities) (D : ℕ → Bool) (s : State) (m : Machin
         args = record { format = refl; offset = refl };
         units = T .units;
         lazy = T .lazy;
+        steady = T .steady;
         early = T .early;
         slots = T .slots;
-        bare = T .bare;
         piped = λ f p e.
             let P = T .piped f p e in
             record {
@@ -255,13 +254,12 @@ module _ (caps : PrivateCapabilities) (D : ℕ → Bool) (s : State) (m : Machin
               stenciled = P .stenciled;
               numbered = P .numbered;
               fetched = P .fetched;
-              describes = P .describes;
             };
       }
 
   -- viewport, scissor or blend constants: the machine's screen becomes the book's
   pub by-screen : (g : Screen) (v : Option Viewport) (r : Option RectI32) (c : ColorF32) → g .viewport ≡ v → g .scissor ≡ r → g .blend ≡ c → (n k l : ℕ)
-      → Tied caps D (withProgress (counted (s .progress .phase) n k l) s) (record { stage = m .stage; gl = record { vertices = m .gl .vertices; bindings = m .gl .bindings; screen = g; fixed = m .gl .fixed; faces = m .gl .faces }; shots = m .shots }) (withScreen v r c b)
+      → Tied caps (withProgress (counted (s .progress .phase) n k l) s) (record { stage = m .stage; gl = record { vertices = m .gl .vertices; bindings = m .gl .bindings; screen = g; fixed = m .gl .fixed; faces = m .gl .faces }; shots = m .shots }) (withScreen v r c b)
   by-screen g v r c a x y n k l =
       record {
         stage = T .stage;
@@ -272,20 +270,20 @@ module _ (caps : PrivateCapabilities) (D : ℕ → Bool) (s : State) (m : Machin
         args = record { format = T .args .format; offset = T .args .offset };
         units = T .units;
         lazy = T .lazy;
+        steady = T .steady;
         early = T .early;
         slots = T .slots;
-        bare = T .bare;
         piped = λ f p e.
             let P = T .piped f p e in
-            record { drawn = P .drawn; set = P .set; stenciled = P .stenciled; numbered = P .numbered; fetched = P .fetched; describes = P .describes };
+            record { drawn = P .drawn; set = P .set; stenciled = P .stenciled; numbered = P .numbered; fetched = P .fetched };
       }
 
   -- the reference of both sides
   pub by-reference : (v : ℕ) (n k l : ℕ)
-      → Tied caps D (withProgress (counted (s .progress .phase) n k l) (withFixed (withStencil (referenced v (s .fixed .stencil)) (s .fixed)) s)) (play m (stencilFuncs (referenced v (s .fixed .stencil))))
+      → Tied caps (withProgress (counted (s .progress .phase) n k l) (withFixed (withStencil (referenced v (s .fixed .stencil)) (s .fixed)) s)) (play m (stencilFuncs (referenced v (s .fixed .stencil))))
       (withPipeline (b .pipeline) (some (record { front = v; back = v })) b)
   by-reference v n k l =
-      subst (λ (x : Machine). Tied caps D (withProgress (counted (s .progress .phase) n k l) (withFixed (withStencil (referenced v (s .fixed .stencil)) (s .fixed)) s)) x (withPipeline (b .pipeline) (some (record { front = v; back = v })) b))
+      subst (λ (x : Machine). Tied caps (withProgress (counted (s .progress .phase) n k l) (withFixed (withStencil (referenced v (s .fixed .stencil)) (s .fixed)) s)) x (withPipeline (b .pipeline) (some (record { front = v; back = v })) b))
       (sym (play-funcs (referenced v (s .fixed .stencil)) m))
       (record {
         stage = T .stage;
@@ -296,12 +294,12 @@ module _ (caps : PrivateCapabilities) (D : ℕ → Bool) (s : State) (m : Machin
         args = record { format = T .args .format; offset = T .args .offset };
         units = T .units;
         lazy = record { bias = T .lazy .bias; alpha = T .lazy .alpha; clip = T .lazy .clip; targets = T .lazy .targets; primitive = T .lazy .primitive };
+        steady = record { long = T .steady .long };
         early = T .early;
         slots = T .slots;
-        bare = T .bare;
         piped = λ f p e.
             let P = T .piped f p e in
-            record { drawn = P .drawn; set = P .set; stenciled = restenciled p (P .stenciled); numbered = P .numbered; fetched = P .fetched; describes = P .describes };
+            record { drawn = P .drawn; set = P .set; stenciled = restenciled p (P .stenciled); numbered = P .numbered; fetched = P .fetched };
       })
     where
       restenciled : (p : RenderPipeline) → Stenciled (s .fixed .stencil) (m .gl .faces) (b .reference) p

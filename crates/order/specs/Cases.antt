@@ -191,8 +191,8 @@ cases =
     -- P 5: "without layout, attribute offset 4, instance 5: 60"
     ∷ records bare (with (fetching 4)) (drawAt 5)
     (SetVertexAttribute (Some 7) (record { step = Instance; stride = 8 }) (attribute 0 60 0) ∷ drawn 5 ∷ [])
-    -- P 6: "A at 0, B at 5, A at 5: the third draw binds nothing"
-    ∷ records emulated (with A ++ drawAt 0 ∷ set-render-pipeline B ∷ drawAt 5 ∷ set-render-pipeline A ∷ []) (drawAt 5) (drawn 5 ∷ [])
+    -- P 6: "A at 0, B at 5, A at 5", document 02, request 5: "now binds offset 56"
+    ∷ records emulated (with A ++ drawAt 0 ∷ set-render-pipeline B ∷ drawAt 5 ∷ set-render-pipeline A ∷ []) (drawAt 5) (bound 0 56 Instance 8 ∷ drawn 5 ∷ [])
     -- P 7: "dispatch (0,1,1): nothing"
     ∷ records emulated (begin-compute-pass writes.None noLabel noQueries ∷ []) (dispatch-workgroups 0 1 1) []
     -- P 8: "viewport width −2.9: −2"

@@ -16,8 +16,9 @@ use Rattle.records.specs.declared.state.Phase.the-variants.{Render}
 use Rattle.records.specs.declared.state.Progress.{Progress}
 use Rattle.records.specs.declared.state.State.{State}
 use Rattle.records.specs.declared.state.VertexState.{VertexState}
+use Rattle.slots.specs.Vertex.{instanceAt}
 use Rattle.slots.specs.Prepare.{rebound, bufferCommand, bufferCommands, attributeCommand, attributeCommands, sent, prepared, preparedState}
-use Rattle.pipeline.specs.Vertex.{attributesIn}
+use Rattle.pipeline.specs.Vertex.{attributesIn, has}
 use Rattle.calls.specs.Draws.{DrawArgs}
 use Rattle.calls.specs.Parts.{withProgress, drawArgs, drawn}
 use Rattle.order.specs.Lists.{true-false, Each}
@@ -28,7 +29,7 @@ use Rattle.order.specs.Book.{Book, Entered, entered, enterDraw, enterDra
 use Rattle.order.specs.Premise.{Ready}
 use Rattle.order.specs.Sweep.{play-append, folded, played}
 use Rattle.order.specs.Invariant.{First, Sane, Agree, slotBuffer, attributeBuffer, sentAttribute, Fetched, Piped, Tied}
-use Rattle.order.specs.Prepared.{bufferAct, attributeAct, slot-after, attribute-kept, attributes-after}
+use Rattle.order.specs.Prepared.{bufferAct, attributeAct, slot-after, slot-read, attribute-kept, attributes-after, attributes-own}
 use Rattle.order.specs.Drawing.{Fresh, argsOf, args-are, view-is}
 use Rattle.order.specs.Keeps.{first-is, is-first, late}
 
@@ -103,8 +104,8 @@ play-prepared caps v w m = go (caps .«vertex_buffer_layout»)
     go true = played (λ (m : Machine). m .gl .vertices) withVertices (bufferCommand v w) (bufferAct v w) (λ m. refl) (λ m g h. refl) (λ m g. refl) (λ m i. refl) (places (rebound v w)) m
     go false = played (λ (m : Machine). m .gl .vertices) withVertices (attributeCommand v w) (attributeAct v w) (λ m. refl) (λ m g h. refl) (λ m g. refl) (λ m a. refl) (sent v w) m
 
-module _ (caps : PrivateCapabilities) (D : ℕ → Bool) (s : State) (m : Machine) (b : Book) (T : Tied caps D s m b) (ph : s .progress .phase ≡ Render)
-    (w : ℕ) (zero-with : caps .«fully_featured_instancing» ≡ true → w ≡ 0) where
+module _ (caps : PrivateCapabilities) (s : State) (m : Machine) (b : Book) (T : Tied caps s m b) (ph : s .progress .phase ≡ Render)
+    (w : ℕ) where
   abbrev v : VertexState
   v = s .vertex
 
@@ -118,25 +119,39 @@ module _ (caps : PrivateCapabilities) (D : ℕ → Bool) (s : State) (m : Machin
   in-first f = first-is (b .stage) (subst (λ (q : Phase). First q (b .stage)) ph f)
 
   -- what the pipeline reads, after the sweep
-  freshly : (p : RenderPipeline) → First (s .progress .phase) (b .stage) → Piped caps D s (m .gl) (b .reference) p → Fresh caps v g′ p w
+  freshly : (p : RenderPipeline) → First (s .progress .phase) (b .stage) → Piped caps s (m .gl) (b .reference) p → Fresh caps v g′ (b .buffer) p w
   unfolding g′ preparedPlayed
   freshly p f P =
       record {
-        slots = λ layout i l d x.
+        slots = λ layout i l h y d x.
             ap (λ (t : Bool). cond t (folded (bufferAct v w) (places (rebound v w)) g) (folded (attributeAct v w) (sent v w) g) .buffer i) layout
-            ∙ slot-after caps v g p (P .fetched) D (b .buffer) (T .slots f) (P .describes) layout w zero-with i l d x;
+            ∙ slot-read caps v g (b .buffer) (T .slots f) layout w p (P .fetched) i l h y d x;
         attributes = λ flat.
             subst (λ (t : Bool). Each (λ (a : AttributeDesc). testBit (v .bound) (a .«buffer_index») ≡ true → cond t (folded (bufferAct v w) (places (rebound v w)) g) (folded (attributeAct v w) (sent v w) g) .attribute (a .location) ≡ some (attributeBuffer v w a)) (attributesIn p))
             (sym flat) (attributes-after caps v g p (P .fetched) flat w);
       }
 
-  attributes-kept : (p : RenderPipeline) → First (s .progress .phase) (b .stage) → Piped caps D s (m .gl) (b .reference) p → caps .«vertex_buffer_layout» ≡ true → g′ .attribute ≡ g .attribute
+  attributes-kept : (p : RenderPipeline) → First (s .progress .phase) (b .stage) → Piped caps s (m .gl) (b .reference) p → caps .«vertex_buffer_layout» ≡ true → g′ .attribute ≡ g .attribute
   unfolding g′ preparedPlayed
   attributes-kept p f P layout =
       ap (λ (t : Bool). cond t (folded (bufferAct v w) (places (rebound v w)) g) (folded (attributeAct v w) (sent v w) g) .attribute) layout
-      ∙ attribute-kept caps v g p (P .fetched) D (b .buffer) (T .slots f) (P .describes) layout w zero-with
+      ∙ attribute-kept caps v g (b .buffer) (T .slots f) layout w
 
-  refetched : (p : RenderPipeline) → First (s .progress .phase) (b .stage) → Piped caps D s (m .gl) (b .reference) p → Fetched caps (preparedState caps v w) g′ p
+  -- each described, bound slot, after the sweep
+  reslotted : First (s .progress .phase) (b .stage) → caps .«vertex_buffer_layout» ≡ true → (i : ℕ) → i < 16 → has (b .buffer i) ≡ true → testBit (v .described) i ≡ true → testBit (v .bound) i ≡ true → g′ .buffer i ≡ some (slotBuffer v (instanceAt (preparedState caps v w) i) i)
+  unfolding g′ preparedPlayed
+  reslotted f layout i l y d x =
+      ap (λ (t : Bool). cond t (folded (bufferAct v w) (places (rebound v w)) g) (folded (attributeAct v w) (sent v w) g) .buffer i) layout
+      ∙ slot-after caps v g (b .buffer) (T .slots f) layout w i l y d x
+
+  -- each attribute, after the sweep, at the instance that its slot remembers
+  owned : (p : RenderPipeline) → First (s .progress .phase) (b .stage) → Piped caps s (m .gl) (b .reference) p → caps .«vertex_buffer_layout» ≡ false → Each (λ (a : AttributeDesc). testBit (v .bound) (a .«buffer_index») ≡ true → g′ .attribute (a .location) ≡ some (attributeBuffer v (instanceAt (preparedState caps v w) (a .«buffer_index»)) a)) (attributesIn p)
+  unfolding g′ preparedPlayed
+  owned p f P flat =
+      subst (λ (t : Bool). Each (λ (a : AttributeDesc). testBit (v .bound) (a .«buffer_index») ≡ true → cond t (folded (bufferAct v w) (places (rebound v w)) g) (folded (attributeAct v w) (sent v w) g) .attribute (a .location) ≡ some (attributeBuffer v (instanceAt (preparedState caps v w) (a .«buffer_index»)) a)) (attributesIn p))
+      (sym flat) (attributes-own caps v g p (P .fetched) flat w)
+
+  refetched : (p : RenderPipeline) → First (s .progress .phase) (b .stage) → Piped caps s (m .gl) (b .reference) p → Fetched caps (preparedState caps v w) g′ p
   refetched p f P =
       record {
         ranged = P .fetched .ranged;
@@ -147,15 +162,15 @@ module _ (caps : PrivateCapabilities) (D : ℕ → Bool) (s : State) (m : Machin
         sent = λ layout.
             subst (λ (x : ℕ → Option Attribute). Each (λ (a : AttributeDesc). x (a .location) ≡ some (sentAttribute p a)) (attributesIn p)) (sym (attributes-kept p f P layout)) (P .fetched .sent layout);
         held = P .fetched .held;
-        clean = λ flat. go (attributesIn p) (freshly p f P .attributes flat);
+        clean = λ flat. go (attributesIn p) (owned p f P flat);
       }
     where
-      go : (l : List AttributeDesc) → Each (λ (a : AttributeDesc). testBit (v .bound) (a .«buffer_index») ≡ true → g′ .attribute (a .location) ≡ some (attributeBuffer v w a)) l
-          → Each (λ (a : AttributeDesc). testBit (preparedState caps v w .«dirty_vbuf_mask») (a .«buffer_index») ≡ false → testBit (v .bound) (a .«buffer_index») ≡ true → g′ .attribute (a .location) ≡ some (attributeBuffer v w a)) l
+      go : (l : List AttributeDesc) → Each (λ (a : AttributeDesc). testBit (v .bound) (a .«buffer_index») ≡ true → g′ .attribute (a .location) ≡ some (attributeBuffer v (instanceAt (preparedState caps v w) (a .«buffer_index»)) a)) l
+          → Each (λ (a : AttributeDesc). testBit (preparedState caps v w .«dirty_vbuf_mask») (a .«buffer_index») ≡ false → testBit (v .bound) (a .«buffer_index») ≡ true → g′ .attribute (a .location) ≡ some (attributeBuffer v (instanceAt (preparedState caps v w) (a .«buffer_index»)) a)) l
       go [] h = tt
       go (a ∷ l) h = ((λ e x. h .0 x), go l (h .1))
 
-  swept : (n k l : ℕ) → Tied caps D (withProgress (counted (s .progress .phase) n k l) (drawn caps w s)) (withVertices g′ m) b
+  swept : (n k l : ℕ) → Tied caps (withProgress (counted (s .progress .phase) n k l) (drawn caps w s)) (withVertices g′ m) b
   swept n k l =
       record {
         stage = T .stage;
@@ -166,16 +181,13 @@ module _ (caps : PrivateCapabilities) (D : ℕ → Bool) (s : State) (m : Machin
         args = T .args;
         units = T .units;
         lazy = T .lazy;
+        steady = record { long = T .steady .long };
         early = λ e. absurd (late (b .stage) (subst (λ (p : Phase). Sane p (b .stage)) ph (T .sane)) e);
         slots = λ f.
             record {
-              long = T .slots f .long;
               bound = T .slots f .bound;
-              still = λ full. zero-with full;
-              only = T .slots f .only;
-              clean = λ layout i l e d x. cleaned f (b .pipeline) refl layout i l d x;
+              clean = λ layout i l y e d x. reslotted f layout i l y d x;
             };
-        bare = T .bare;
         piped = λ f p e.
             let P = T .piped f p e in
             record {
@@ -184,15 +196,8 @@ module _ (caps : PrivateCapabilities) (D : ℕ → Bool) (s : State) (m : Machin
               stenciled = P .stenciled;
               numbered = P .numbered;
               fetched = refetched p f P;
-              describes = P .describes;
             };
       }
-    where
-      -- by the pipeline; without one no slot is described
-      cleaned : First (s .progress .phase) (b .stage) → (o : Option RenderPipeline) → b .pipeline ≡ o → caps .«vertex_buffer_layout» ≡ true → (i : ℕ) → i < 16 → testBit (v .described) i ≡ true → testBit (v .bound) i ≡ true
-          → g′ .buffer i ≡ some (slotBuffer v w i)
-      cleaned f none q layout i l d x = true-false (sym d ∙ T .bare f q i)
-      cleaned f (some p) q layout i l d x = freshly p f (T .piped f p q) .slots layout i l d x
 
   -- the view of a draw whose command is made of the state's arguments
   viewed : (b .stage ≡ first → Ready b) → (indexed : Bool) (c : DrawArgs → Command) → b .stage ≡ first → viewOf (b .pipeline) (record { command = c (drawArgs (s .draw)); indexed = indexed; gl = withVertices g′ m .gl }) ≡ names b w indexed (c (argsOf b))
@@ -201,21 +206,21 @@ module _ (caps : PrivateCapabilities) (D : ℕ → Bool) (s : State) (m : Machin
       let f : First (s .progress .phase) (b .stage) = subst (λ (q : Phase). First q (b .stage)) (sym ph) (is-first (b .stage) st) in
       let P = T .piped f (R .pipeline) (R .is) in
       let T′ = swept 0 0 0 in
-      view-is caps D (drawn caps w s) (withVertices g′ m .gl) b R w indexed (c (drawArgs (s .draw))) (T′ .screen) (T′ .res) (T′ .units) (T′ .slots f) (repiped (T′ .piped f (R .pipeline) (R .is))) (fresh′ (freshly (R .pipeline) f P))
+      view-is caps (drawn caps w s) (withVertices g′ m .gl) b R w indexed (c (drawArgs (s .draw))) (T′ .screen) (T′ .res) (T′ .units) (T′ .slots f) (repiped (T′ .piped f (R .pipeline) (R .is))) (fresh′ (freshly (R .pipeline) f P))
       ∙ ap (λ (a : DrawArgs). names b w indexed (c a)) (args-are s b (R .pipeline) (R .is) (T .args) (P .drawn))
     where
-      repiped : {p : RenderPipeline} → Piped caps D (withProgress (counted (s .progress .phase) 0 0 0) (drawn caps w s)) (withVertices g′ m .gl) (b .reference) p → Piped caps D (drawn caps w s) (withVertices g′ m .gl) (b .reference) p
-      repiped P = record { drawn = P .drawn; set = P .set; stenciled = P .stenciled; numbered = P .numbered; fetched = P .fetched; describes = P .describes }
+      repiped : {p : RenderPipeline} → Piped caps (withProgress (counted (s .progress .phase) 0 0 0) (drawn caps w s)) (withVertices g′ m .gl) (b .reference) p → Piped caps (drawn caps w s) (withVertices g′ m .gl) (b .reference) p
+      repiped P = record { drawn = P .drawn; set = P .set; stenciled = P .stenciled; numbered = P .numbered; fetched = P .fetched }
 
-      fresh′ : {p : RenderPipeline} → Fresh caps v g′ p w → Fresh caps (preparedState caps v w) g′ p w
+      fresh′ : {p : RenderPipeline} → Fresh caps v g′ (b .buffer) p w → Fresh caps (preparedState caps v w) g′ (b .buffer) p w
       fresh′ F = record { slots = F .slots; attributes = F .attributes }
 
   -- ---- one draw
   pub by-draw : (b .stage ≡ first → Ready b) → (indexed : Bool) (c : DrawArgs → Command) → ((a : DrawArgs) (x : Machine) → exec x (c a) ≡ shoot indexed (c a) x) → (n k l : ℕ)
-      → Tied caps D (withProgress (counted (s .progress .phase) n k l) (drawn caps w s)) (play m (prepared caps v w ++ (c (drawArgs (s .draw)) ∷ []))) (enterDraw w indexed (c (argsOf b)) b)
+      → Tied caps (withProgress (counted (s .progress .phase) n k l) (drawn caps w s)) (play m (prepared caps v w ++ (c (drawArgs (s .draw)) ∷ []))) (enterDraw w indexed (c (argsOf b)) b)
   unfolding g′
   by-draw ready indexed c shoots n k l =
-      subst (λ (x : Machine). Tied caps D (withProgress (counted (s .progress .phase) n k l) (drawn caps w s)) x (enterDraw w indexed (c (argsOf b)) b))
+      subst (λ (x : Machine). Tied caps (withProgress (counted (s .progress .phase) n k l) (drawn caps w s)) x (enterDraw w indexed (c (argsOf b)) b))
       (sym (play-append m (prepared caps v w) (c (drawArgs (s .draw)) ∷ []) ∙ ap (λ (x : Machine). exec x (c (drawArgs (s .draw)))) (play-prepared′ m) ∙ shoots (drawArgs (s .draw)) (withVertices g′ m)))
       (let T′ = swept n k l in
       record {
@@ -229,9 +234,9 @@ module _ (caps : PrivateCapabilities) (D : ℕ → Bool) (s : State) (m : Machin
         args = record { format = T .args .format; offset = T .args .offset };
         units = T′ .units;
         lazy = T′ .lazy;
+        steady = T′ .steady;
         early = T′ .early;
         slots = T′ .slots;
-        bare = T′ .bare;
         piped = T′ .piped;
       })
     where
@@ -239,32 +244,32 @@ module _ (caps : PrivateCapabilities) (D : ℕ → Bool) (s : State) (m : Machin
       play-prepared′ x = play-prepared caps v w x
 
 -- ---- indirect draws: working instance 0
-module _ (caps : PrivateCapabilities) (D : ℕ → Bool) (s : State) (m : Machine) (b : Book) (T : Tied caps D s m b) (ph : s .progress .phase ≡ Render) where
+module _ (caps : PrivateCapabilities) (s : State) (m : Machine) (b : Book) (T : Tied caps s m b) (ph : s .progress .phase ≡ Render) where
   pub by-indirect : (indexed : Bool) (c : DrawArgs → ℕ → Command) (count : ℕ) → (b .stage ≡ first → 0 < count → Ready b) → ((a : DrawArgs) (i : ℕ) (x : Machine) → exec x (c a i) ≡ shoot indexed (c a i) x) → (n k l : ℕ)
-      → Tied caps D (withProgress (counted (s .progress .phase) n k l) (drawn caps 0 s)) (play m (prepared caps (s .vertex) 0 ++ tabulate count (c (drawArgs (s .draw))))) (enterDraws indexed (c (argsOf b)) count b)
+      → Tied caps (withProgress (counted (s .progress .phase) n k l) (drawn caps 0 s)) (play m (prepared caps (s .vertex) 0 ++ tabulate count (c (drawArgs (s .draw))))) (enterDraws indexed (c (argsOf b)) count b)
   unfolding shotAll g′
   by-indirect indexed c count ready shoots n k l =
-      subst (λ (x : Machine). Tied caps D (withProgress (counted (s .progress .phase) n k l) (drawn caps 0 s)) x (enterDraws indexed (c (argsOf b)) count b))
+      subst (λ (x : Machine). Tied caps (withProgress (counted (s .progress .phase) n k l) (drawn caps 0 s)) x (enterDraws indexed (c (argsOf b)) count b))
       (sym
       (play-append m (prepared caps (s .vertex) 0) (tabulate count (c (drawArgs (s .draw))))
       ∙ ap (λ (x : Machine). play x (tabulate count (c (drawArgs (s .draw))))) (play-prepared caps (s .vertex) 0 m)
       ∙ play-shots indexed count (c (drawArgs (s .draw))) (shoots (drawArgs (s .draw))) (withVertices (preparedPlayed caps (s .vertex) 0 (m .gl .vertices)) m)))
-      (let T′ = swept caps D s m b T ph 0 (λ f. refl) n k l in
+      (let T′ = swept caps s m b T ph 0 n k l in
       record {
         stage = T′ .stage;
         sane = T′ .sane;
         log =
             subst (λ (st : Stage). Agree (notedAll st (tabulate count shot) (m .shots)) (enterDraws indexed (c (argsOf b)) count b .draws)) (sym (T .stage))
             (all-noted (b .stage) (tabulate count shot) (tabulate count entry) (m .shots) (b .draws) (T .log)
-            (λ st. agree-table count shot entry (λ i h. viewed caps D s m b T ph 0 (λ f. refl) (λ x. ready x (omega arith)) indexed (λ a. c a i) st)));
+            (λ st. agree-table count shot entry (λ i h. viewed caps s m b T ph 0 (λ x. ready x (omega arith)) indexed (λ a. c a i) st)));
         screen = record { viewport = T .screen .viewport; scissor = T .screen .scissor; blend = T .screen .blend };
         res = T′ .res;
         args = record { format = T .args .format; offset = T .args .offset };
         units = T′ .units;
         lazy = T′ .lazy;
+        steady = T′ .steady;
         early = T′ .early;
         slots = T′ .slots;
-        bare = T′ .bare;
         piped = T′ .piped;
       })
     where

@@ -14,6 +14,7 @@ use Rattle.mask.specs.Mask.{testBit}
 use Rattle.names.specs.Maps.{primitiveState}
 use Rattle.records.specs.Check.{some?, badDescriptor}
 use Rattle.records.specs.declared.command.AttributeDesc.{AttributeDesc}
+use Rattle.records.specs.declared.command.BufferBinding.{BufferBinding}
 use Rattle.records.specs.declared.command.Command.{Command}
 use Rattle.records.specs.declared.command.OptionU32.{OptionU32}
 use Rattle.records.specs.declared.command.OptionU32.the-variants.{None, Some}
@@ -47,14 +48,14 @@ pub buffers-known : (b : Book) (R : Ready b) (i : ℕ) → i < 16 → has (pipeD
 buffers-known b R i l h = sym (known-is (b .buffer i)) ∙ R .bound i l (described-is (R .pipeline) i ∙ h)
 
 -- every slot, or attribute, that the pipeline reads holds what the state says at the working instance w
-pub record Fresh (caps : PrivateCapabilities) (v : VertexState) (g : Vertices) (p : RenderPipeline) (w : ℕ) : Type 0 where
-  pub slots : caps .«vertex_buffer_layout» ≡ true → (i : ℕ) → i < 16 → testBit (v .described) i ≡ true → testBit (v .bound) i ≡ true → g .buffer i ≡ some (slotBuffer v w i)
+pub record Fresh (caps : PrivateCapabilities) (v : VertexState) (g : Vertices) (buffer : ℕ → Option BufferBinding) (p : RenderPipeline) (w : ℕ) : Type 0 where
+  pub slots : caps .«vertex_buffer_layout» ≡ true → (i : ℕ) → i < 16 → has (pipeDesc p i) ≡ true → has (buffer i) ≡ true → testBit (v .described) i ≡ true → testBit (v .bound) i ≡ true → g .buffer i ≡ some (slotBuffer v w i)
   pub attributes : caps .«vertex_buffer_layout» ≡ false
       → Each (λ (a : AttributeDesc). testBit (v .bound) (a .«buffer_index») ≡ true → g .attribute (a .location) ≡ some (attributeBuffer v w a)) (attributesIn p)
 
 -- ---- fetches
-module _ (caps : PrivateCapabilities) (D : ℕ → Bool) (v : VertexState) (g : Vertices) (b : Book) (p : RenderPipeline) (w : ℕ) (e : b .pipeline ≡ some p)
-    (bound : (i : ℕ) → i < 16 → has (pipeDesc p i) ≡ true → has (b .buffer i) ≡ true) (S : Slots caps D v g (b .buffer)) (F : Fetched caps v g p) (R : Fresh caps v g p w) where
+module _ (caps : PrivateCapabilities) (v : VertexState) (g : Vertices) (b : Book) (p : RenderPipeline) (w : ℕ) (e : b .pipeline ≡ some p)
+    (bound : (i : ℕ) → i < 16 → has (pipeDesc p i) ≡ true → has (b .buffer i) ≡ true) (S : Slots caps v g (b .buffer)) (F : Fetched caps v g p) (R : Fresh caps v g (b .buffer) p w) where
   -- what the book names for an attribute of slot i
   named-at : (a : AttributeDesc) → a .«buffer_index» < 16 → has (pipeDesc p (a .«buffer_index»)) ≡ true
       → namedFetch b w a
@@ -68,13 +69,13 @@ module _ (caps : PrivateCapabilities) (D : ℕ → Bool) (v : VertexState) (g : 
   named-at a l h =
       let i = a .«buffer_index» in
       let d = ap (λ (o : Option RenderPipeline). descBy o i) e ∙ describes-is p i ∙ desc-some v i (pipeDesc p i) (F .kept i l h) h .1 in
-      let x = binding-some v i (b .buffer i) (S .bound i l) (bound i l h) .1 in
+      let x = binding-some v i (b .buffer i) (S .bound i l (bound i l h)) (bound i l h) .1 in
       let n = stepped-is (slotDesc v i .step) w (slotAt v i .stride) in
       (λ j. some (record { location = a .location; format = a .«format_desc»; slot = i; source = namedSource w (a .offset) (d j) (x j) }))
       ∙ (λ j. some (record { location = a .location; format = a .«format_desc»; slot = i; source = some (record { buffer = slotAt v i .raw; stride = slotDesc v i .stride; step = slotDesc v i .step; first = a .offset + slotAt v i .offset + n j }) }))
 
   bound-at : (i : ℕ) → i < 16 → has (pipeDesc p i) ≡ true → testBit (v .bound) i ≡ true
-  bound-at i l h = binding-some v i (b .buffer i) (S .bound i l) (bound i l h) .0
+  bound-at i l h = binding-some v i (b .buffer i) (S .bound i l (bound i l h)) (bound i l h) .0
 
   described-at : (i : ℕ) → i < 16 → has (pipeDesc p i) ≡ true → testBit (v .described) i ≡ true
   described-at i l h = desc-some v i (pipeDesc p i) (F .kept i l h) h .0
@@ -85,7 +86,7 @@ module _ (caps : PrivateCapabilities) (D : ℕ → Bool) (v : VertexState) (g : 
   by-slot a l h layout q =
       let i = a .«buffer_index» in
       ap (fetchOf (a .location) (g .buffer)) q
-      ∙ ap (λ (o : Option VertexBuffer). some (record { location = a .location; format = a .«format_desc»; slot = i; source = slot-source (a .offset) o })) (R .slots layout i l (described-at i l h) (bound-at i l h))
+      ∙ ap (λ (o : Option VertexBuffer). some (record { location = a .location; format = a .«format_desc»; slot = i; source = slot-source (a .offset) o })) (R .slots layout i l h (bound i l h) (described-at i l h) (bound-at i l h))
       ∙ ap (λ (n : ℕ). some (record { location = a .location; format = a .«format_desc»; slot = i; source = some (record { buffer = slotAt v i .raw; stride = slotDesc v i .stride; step = slotDesc v i .step; first = n }) }))
       (sym (add-assoc (a .offset) (slotAt v i .offset) (slotOffset v w i)))
       ∙ sym (named-at a l h)
@@ -155,15 +156,15 @@ args-are s b p e A W =
     λ j. record { topology = t j; location = l j; format = f j; offset = o j }
 
 -- ---- the whole view
-pub view-is : (caps : PrivateCapabilities) (D : ℕ → Bool) (s : State) (g : Gl) (b : Book) (R : Ready b) (w : ℕ) (indexed : Bool) (c : Command)
-    → ScreenTied (g .screen) b → ResTied (g .bindings) (b .bound) (b .index) → Units (s .bind) (g .bindings .samplers) (b .bound .samplers) → Slots caps D (s .vertex) (g .vertices) (b .buffer)
-    → Piped caps D s g (b .reference) (R .pipeline) → Fresh caps (s .vertex) (g .vertices) (R .pipeline) w
+pub view-is : (caps : PrivateCapabilities) (s : State) (g : Gl) (b : Book) (R : Ready b) (w : ℕ) (indexed : Bool) (c : Command)
+    → ScreenTied (g .screen) b → ResTied (g .bindings) (b .bound) (b .index) → Units (s .bind) (g .bindings .samplers) (b .bound .samplers) → Slots caps (s .vertex) (g .vertices) (b .buffer)
+    → Piped caps s g (b .reference) (R .pipeline) → Fresh caps (s .vertex) (g .vertices) (b .buffer) (R .pipeline) w
     → viewOf (b .pipeline) (record { command = c; indexed = indexed; gl = g }) ≡ names b w indexed c
-view-is caps D s g b R w indexed c Sc Re U S P F =
+view-is caps s g b R w indexed c Sc Re U S P F =
     let p = R .pipeline in
     let e = R .is in
     let program = P .set .program ∙ sym (ap (by (λ (p : RenderPipeline). p .inner .program)) e) in
-    let fetches = fetches-are caps D (s .vertex) (g .vertices) b p w e (buffers-known b R) S (P .fetched) F in
+    let fetches = fetches-are caps (s .vertex) (g .vertices) b p w e (buffers-known b R) S (P .fetched) F in
     let buffers = Re .buffers in
     let textures = Re .textures in
     let images = Re .images in

@@ -36,7 +36,7 @@ use Rattle.calls.specs.Draws.{indirectCommands, indexedIndirectCommands}
 use Rattle.calls.specs.Transfers.{barriersOf, bufferBarrierCommands, textureUses, copiesOf}
 use Rattle.calls.specs.Step.{outcomeOf}
 use Rattle.order.specs.Run.{record-calls, fed}
-use Rattle.order.specs.Samples.{board, emulated, bare, lent, noQueries, noLabel, byVertex, byInstance, attribute, pipeline, entry, bindGroup, A, B, fetching, filled, pass, barePass, drawAt, rect, drawn, bound}
+use Rattle.order.specs.Samples.{board, emulated, full, bare, lent, noQueries, noLabel, byVertex, byInstance, attribute, pipeline, entry, bindGroup, A, B, fetching, filled, pass, barePass, drawAt, rect, drawn, bound}
 use Rattle.order.specs.Cases.{Case, seen, said, all-accepted, records, refused, with, masked, differing, float, default, external, depth-stencil, colour, black, extents}
 use Rattle.order.specs.EdgeSamples.{multisampled, unsynchronized, sint, into, into-buffer, depth-alone, stencil-alone, passBy, half, deep, resolved, resolving, two-queries, many-queries, labelled, full-bytes, marked, compute, last-slot, attributed, stepping, fetched, at-offset, special, keeps, face, two-faced, both-units, unit-4, computing, counting, located, taking, described, sending, buffer, texture, image, sampler, bindOne, shape, grouped, vertices, indices, no-buffer, triangles, cleared, extent}
 
@@ -328,6 +328,24 @@ edges =
     (SetVertexAttribute (Some 7) (record { step = Vertex; stride = 8 }) (attribute 2 16 0)
     ∷ SetVertexAttribute (Some 7) (record { step = Vertex; stride = 8 }) (attribute 5 20 0)
     ∷ drawn 5 ∷ [])
+    -- V1, request 5: A at 0, B at 5, A at 0
+    ∷ records emulated (with A ++ drawAt 0 ∷ set-render-pipeline B ∷ drawAt 5 ∷ set-render-pipeline A ∷ []) (drawAt 0) (drawn 0 ∷ [])
+    -- V1, request 5: B binds A's dirty slot at 5, and A's draw at 5 finds it there; at 0 it does not
+    ∷ records emulated (with A ++ set-render-pipeline B ∷ []) (drawAt 5) (bound 0 56 Instance 8 ∷ drawn 5 ∷ [])
+    ∷ records emulated (with A ++ set-render-pipeline B ∷ drawAt 5 ∷ set-render-pipeline A ∷ []) (drawAt 5) (drawn 5 ∷ [])
+    ∷ records emulated (with A ++ set-render-pipeline B ∷ drawAt 5 ∷ set-render-pipeline A ∷ []) (drawAt 0) (bound 0 16 Instance 8 ∷ drawn 0 ∷ [])
+    -- V1, request 5: a draw at 5 before a second pass's pipeline binds nothing, so A's does; at 0 it has no reason to
+    ∷ records emulated (with A ++ drawAt 0 ∷ end-render-pass ∷ barePass ∷ drawAt 5 ∷ set-render-pipeline A ∷ []) (drawAt 5) (bound 0 56 Instance 8 ∷ drawn 5 ∷ [])
+    ∷ records emulated (with A ++ drawAt 5 ∷ end-render-pass ∷ barePass ∷ set-render-pipeline A ∷ []) (drawAt 0) (drawn 0 ∷ [])
+    -- V1, V5, request 5: an indirect draw after 5, with count 0 too
+    ∷ records emulated (with A ++ drawAt 5 ∷ []) (draw-indirect 7 4 1) (bound 0 16 Instance 8 ∷ DrawIndirect 4 7 4 None ∷ [])
+    ∷ records emulated (with A ++ drawAt 5 ∷ []) (draw-indirect 7 4 0) (bound 0 16 Instance 8 ∷ [])
+    -- V1, request 5: by vertex at 5, then by instance at 5
+    ∷ records emulated (with (stepping (byVertex 8)) ++ drawAt 5 ∷ set-render-pipeline A ∷ []) (drawAt 5) (bound 0 56 Instance 8 ∷ drawn 5 ∷ [])
+    -- V1, request 5: without layout, and with full instancing
+    ∷ records bare (with (fetching 4) ++ drawAt 0 ∷ set-render-pipeline B ∷ drawAt 5 ∷ set-render-pipeline (fetching 4) ∷ []) (drawAt 5)
+    (SetVertexAttribute (Some 7) (record { step = Instance; stride = 8 }) (attribute 0 60 0) ∷ drawn 5 ∷ [])
+    ∷ records full (with A ++ drawAt 0 ∷ set-render-pipeline B ∷ drawAt 5 ∷ set-render-pipeline A ∷ []) (drawAt 5) (drawn 5 ∷ [])
     -- T6: an attribute's offset 4,294,967,295, and 1 more; a slot's offset 18,446,744,073,709,551,615, and 1 more
     ∷ records bare (barePass ∷ set-render-pipeline (fetching 4) ∷ set-vertex-buffer 0 7 4294967251 ∷ []) (drawAt 5)
     (SetVertexAttribute (Some 7) (record { step = Instance; stride = 8 }) (attribute 0 4294967295 0) ∷ drawn 5 ∷ [])

@@ -42,6 +42,7 @@ use Rattle.calls.specs.Transfers.{Barrier, synchronizes, barrierCommands, buffe
 use Rattle.order.specs.Machine.{Vertices, Machine, exec, play}
 use Rattle.order.specs.Sweep.{play-append}
 use Rattle.order.specs.Invariant.{Slots}
+use Rattle.pipeline.specs.Vertex.{has}
 use Rattle.order.specs.Lists.{true-false}
 
 -- the machine is as before
@@ -169,15 +170,12 @@ idle-copies src dst l = idle-map (copyCommand src dst) one l
         (CopyBufferToBuffer (src .raw) (src .target) (dst .raw) (dst .target) c) (λ x. refl) (λ x. refl) m
 
 -- ---- before the first render pass no slot is described or bound
-pub slots-start : (caps : PrivateCapabilities) (D : ℕ → Bool) (v : VertexState) (g : Vertices) (buffer : ℕ → Option BufferBinding) → v ≡ startVertex → ((i : ℕ) → buffer i ≡ none) → Slots caps D v g buffer
-slots-start caps D v g buffer e h = subst (λ (x : VertexState). Slots caps D x g buffer) (sym e) S
+pub slots-start : (caps : PrivateCapabilities) (v : VertexState) (g : Vertices) (buffer : ℕ → Option BufferBinding) → v ≡ startVertex → ((i : ℕ) → buffer i ≡ none) → Slots caps v g buffer
+slots-start caps v g buffer e h = subst (λ (x : VertexState). Slots caps x g buffer) (sym e) S
   where
-    S : Slots caps D startVertex g buffer
+    S : Slots caps startVertex g buffer
     S =
         record {
-          long = refl;
-          bound = λ i l. ap (λ (t : Bool). cond t (some (record { raw = slotAt startVertex i .raw; offset = slotAt startVertex i .offset })) none) (test-zero i) ∙ sym (h i);
-          still = λ f. refl;
-          only = λ layout full i l q. test-zero i;
-          clean = λ layout i l q d b. true-false (sym d ∙ test-zero i);
+          bound = λ i l x. true-false (sym x ∙ ap has (h i));
+          clean = λ layout i l x q d b. true-false (sym d ∙ test-zero i);
         }

@@ -83,44 +83,44 @@ kept-list caps s c l e = go (goes caps s c)
         (ap (λ (k : ℕ). play fresh (take k l)) q ∙ sym (h (play fresh l)), ap (λ (k : ℕ). length (take k l)) q ∙ sym q)
 
 -- ---- one call
-pub record Right (caps : PrivateCapabilities) (D : ℕ → Bool) (r : Recording) (b : Book) : Type 0 where
+pub record Right (caps : PrivateCapabilities) (r : Recording) (b : Book) : Type 0 where
   pub counted : length (r .list) ≡ r .state .progress .commands
-  pub tied : Tied caps D (r .state) (play fresh (r .list)) b
+  pub tied : Tied caps (r .state) (play fresh (r .list)) b
 
-pub one-call : (caps : PrivateCapabilities) (rooms : Rooms) (D : ℕ → Bool) (r : Recording) (b : Book) (c : Call) → Right caps D r b → (carried caps rooms (r .state) c ≡ true → Premise caps D b c)
-    → Right caps D (record-call caps rooms r c) (enterFed caps b (record { call = c; accepted = carried caps rooms (r .state) c }))
-one-call caps rooms D r b c R P = go (carried caps rooms (r .state) c) refl
+pub one-call : (caps : PrivateCapabilities) (rooms : Rooms) (r : Recording) (b : Book) (c : Call) → Right caps r b → (carried caps rooms (r .state) c ≡ true → Premise b c)
+    → Right caps (record-call caps rooms r c) (enterFed caps b (record { call = c; accepted = carried caps rooms (r .state) c }))
+one-call caps rooms r b c R P = go (carried caps rooms (r .state) c) refl
   where
     s : State
     s = r .state
 
     go : (t : Bool) → carried caps rooms s c ≡ t
-        → Right caps D (record { state = cond t (withProgress (progressAfter (meaning caps s c)) (meaning caps s c .after)) s; list = cond t (take (meaning caps s c .after .progress .commands) (r .list) ++ meaning caps s c .commands) (r .list) })
+        → Right caps (record { state = cond t (withProgress (progressAfter (meaning caps s c)) (meaning caps s c .after)) s; list = cond t (take (meaning caps s c .after .progress .commands) (r .list) ++ meaning caps s c .commands) (r .list) })
         (cond t (enter caps b c) b)
     go true e =
         let K = kept-list caps s c (r .list) (R .counted) in
         record {
           counted = length-append (take (meaning caps s c .after .progress .commands) (r .list)) (meaning caps s c .commands) ∙ ap (λ (n : ℕ). n + length (meaning caps s c .commands)) (K .1);
           tied =
-              subst (λ (m : Machine). Tied caps D (withProgress (progressAfter (meaning caps s c)) (meaning caps s c .after)) m (enter caps b c))
+              subst (λ (m : Machine). Tied caps (withProgress (progressAfter (meaning caps s c)) (meaning caps s c .after)) m (enter caps b c))
               (sym (play-append fresh (take (meaning caps s c .after .progress .commands) (r .list)) (meaning caps s c .commands) ∙ ap (λ (m : Machine). play m (meaning caps s c .commands)) (K .0)))
-              (accepts caps D rooms s (play fresh (r .list)) b (R .tied) c e (P e));
+              (accepts caps rooms s (play fresh (r .list)) b (R .tied) c e (P e));
         }
     go false e = R
 
 -- ---- all calls
-pub all-calls : (caps : PrivateCapabilities) (rooms : Rooms) (D : ℕ → Bool) (r : Recording) (b : Book) (cs : List Call) → Right caps D r b → Premises caps D b (fed caps rooms (r .state) cs)
-    → Right caps D (record-calls caps rooms r cs) (bookOf caps b (fed caps rooms (r .state) cs))
+pub all-calls : (caps : PrivateCapabilities) (rooms : Rooms) (r : Recording) (b : Book) (cs : List Call) → Right caps r b → Premises caps b (fed caps rooms (r .state) cs)
+    → Right caps (record-calls caps rooms r cs) (bookOf caps b (fed caps rooms (r .state) cs))
 unfolding record-calls fed Premises bookOf
-all-calls caps rooms D r b [] R P = R
-all-calls caps rooms D r b (c ∷ cs) R P = all-calls caps rooms D (record-call caps rooms r c) (enterFed caps b (record { call = c; accepted = carried caps rooms (r .state) c })) cs (one-call caps rooms D r b c R (P .0)) (P .1)
+all-calls caps rooms r b [] R P = R
+all-calls caps rooms r b (c ∷ cs) R P = all-calls caps rooms (record-call caps rooms r c) (enterFed caps b (record { call = c; accepted = carried caps rooms (r .state) c })) cs (one-call caps rooms r b c R (P .0)) (P .1)
 
-pub began : (caps : PrivateCapabilities) (rooms : Rooms) (D : ℕ → Bool) (s : State) → carried caps rooms s begin-encoding ≡ true → Right caps D (begun caps rooms s) empty
-began caps rooms D s e = subst (λ (x : State). Right caps D (record { state = x; list = [] }) empty) (sym (ap (λ (t : Bool). cond t (withProgress (progressAfter (meaning caps s begin-encoding)) (meaning caps s begin-encoding .after)) s) e)) (record { counted = refl; tied = started caps D 0 0 0 })
+pub began : (caps : PrivateCapabilities) (rooms : Rooms) (s : State) → carried caps rooms s begin-encoding ≡ true → Right caps (begun caps rooms s) empty
+began caps rooms s e = subst (λ (x : State). Right caps (record { state = x; list = [] }) empty) (sym (ap (λ (t : Bool). cond t (withProgress (progressAfter (meaning caps s begin-encoding)) (meaning caps s begin-encoding .after)) s) e)) (record { counted = refl; tied = started caps 0 0 0 })
 
-pub all-agree : (caps : PrivateCapabilities) (rooms : Rooms) (s : State) (calls : List Call) (D : ℕ → Bool) → carried caps rooms s begin-encoding ≡ true → Premises caps D empty (fed caps rooms (begun caps rooms s .state) calls)
+pub all-agree : (caps : PrivateCapabilities) (rooms : Rooms) (s : State) (calls : List Call) → carried caps rooms s begin-encoding ≡ true → Premises caps empty (fed caps rooms (begun caps rooms s .state) calls)
     → Agree (play fresh (record-calls caps rooms (begun caps rooms s) calls .list) .shots) (bookOf caps empty (fed caps rooms (begun caps rooms s .state) calls) .draws)
-all-agree caps rooms s calls D e P = all-calls caps rooms D (begun caps rooms s) empty calls (began caps rooms D s e) P .tied .log
+all-agree caps rooms s calls e P = all-calls caps rooms (begun caps rooms s) empty calls (began caps rooms s e) P .tied .log
 
 -- ---- the log as an equation
 -- each draw read off the machine at the places of the pipeline that the book has at that draw

@@ -28,7 +28,7 @@ use Rattle.records.specs.declared.state.DrawState.{DrawState}
 use Rattle.records.specs.declared.state.FixedState.{FixedState}
 use Rattle.records.specs.declared.state.VertexState.{VertexState}
 use Rattle.records.specs.declared.state.State.{State}
-use Rattle.slots.specs.Vertex.{slotAt, descAt, bindingAt, attributesOf}
+use Rattle.slots.specs.Vertex.{slotAt, descAt, bindingAt, instanceAt, attributesOf}
 use Rattle.slots.specs.Prepare.{slotDesc, slotOffset, attributeOffset}
 use Rattle.bindings.specs.Units.{samplerAt, numberAt, resolve}
 use Rattle.pipeline.specs.Inner.{mapAt, innerOutOfRange}
@@ -99,7 +99,7 @@ pub record Lazy (f : FixedState) (g : Fixed) : Type 0 where
   -- the starting primitive, whose front face is 0, is no pipeline's
   pub primitive : (f .primitive .«front_face» ≡ 0 → ⊥) → g .primitive ≡ some (f .primitive)
 
--- ---- vertex slots, in the first render pass. D says which slots the pass's pipelines describe
+-- ---- vertex slots, in the first render pass
 -- what a slot holds at a working instance
 abbrev pub slotBuffer : VertexState → ℕ → ℕ → VertexBuffer
 slotBuffer v w i = record { binding = record { raw = slotAt v i .raw; offset = slotAt v i .offset + slotOffset v w i }; desc = slotDesc v i }
@@ -113,16 +113,16 @@ attributeBuffer v w a =
       attribute = record { location = a .location; offset = attributeOffset v w a; «buffer_index» = a .«buffer_index»; «format_desc» = a .«format_desc» };
     }
 
-pub record Slots (caps : PrivateCapabilities) (D : ℕ → Bool) (v : VertexState) (g : Vertices) (buffer : ℕ → Option BufferBinding) : Type 0 where
+-- in every pass: sixteen slots
+pub record Steady (v : VertexState) : Type 0 where
   pub long : length (v .buffers) ≡ 16
-  pub bound : (i : ℕ) → i < 16 → bindingAt v i ≡ buffer i
-  -- with full instancing the working instance is 0
-  pub still : caps .«fully_featured_instancing» ≡ true → v .«active_first_instance» ≡ 0
-  -- with layouts and emulated instancing no slot outside D is described
-  pub only : caps .«vertex_buffer_layout» ≡ true → caps .«fully_featured_instancing» ≡ false → (i : ℕ) → i < 16 → D i ≡ false → testBit (v .described) i ≡ false
-  -- a described, bound slot that is not dirty holds what the state says at the working instance last used
-  pub clean : caps .«vertex_buffer_layout» ≡ true → (i : ℕ) → i < 16 → testBit (v .«dirty_vbuf_mask») i ≡ false → testBit (v .described) i ≡ true → testBit (v .bound) i ≡ true
-      → g .buffer i ≡ some (slotBuffer v (v .«active_first_instance») i)
+
+pub record Slots (caps : PrivateCapabilities) (v : VertexState) (g : Vertices) (buffer : ℕ → Option BufferBinding) : Type 0 where
+  -- a slot that the book has a buffer for is bound to it
+  pub bound : (i : ℕ) → i < 16 → has (buffer i) ≡ true → bindingAt v i ≡ buffer i
+  -- and, described and not dirty, holds what the state says at the working instance that it was last bound with
+  pub clean : caps .«vertex_buffer_layout» ≡ true → (i : ℕ) → i < 16 → has (buffer i) ≡ true → testBit (v .«dirty_vbuf_mask») i ≡ false → testBit (v .described) i ≡ true → testBit (v .bound) i ≡ true
+      → g .buffer i ≡ some (slotBuffer v (instanceAt v i) i)
 
 -- ---- the current pipeline, in the first render pass
 pub record Drawn (d : DrawState) (p : RenderPipeline) : Type 0 where
@@ -173,19 +173,14 @@ pub record Fetched (caps : PrivateCapabilities) (v : VertexState) (g : Vertices)
   pub held : caps .«vertex_buffer_layout» ≡ false → attributesOf v ≡ attributesIn p
   pub clean : caps .«vertex_buffer_layout» ≡ false
       → Each (λ (a : AttributeDesc). testBit (v .«dirty_vbuf_mask») (a .«buffer_index») ≡ false → testBit (v .bound) (a .«buffer_index») ≡ true
-      → g .attribute (a .location) ≡ some (attributeBuffer v (v .«active_first_instance») a)) (attributesIn p)
+      → g .attribute (a .location) ≡ some (attributeBuffer v (instanceAt v (a .«buffer_index»)) a)) (attributesIn p)
 
--- the pipeline describes the slots D, where that is asked
-abbrev pub DescribesOn : PrivateCapabilities → (ℕ → Bool) → RenderPipeline → Type 0
-DescribesOn caps D p = caps .«vertex_buffer_layout» ≡ true → caps .«fully_featured_instancing» ≡ false → (i : ℕ) → i < 16 → has (pipeDesc p i) ≡ D i
-
-pub record Piped (caps : PrivateCapabilities) (D : ℕ → Bool) (s : State) (g : Gl) (r : Option References) (p : RenderPipeline) : Type 0 where
+pub record Piped (caps : PrivateCapabilities) (s : State) (g : Gl) (r : Option References) (p : RenderPipeline) : Type 0 where
   pub drawn : Drawn (s .draw) p
   pub set : Set (g .fixed) p
   pub stenciled : Stenciled (s .fixed .stencil) (g .faces) r p
   pub numbered : Numbered (s .bind) p
   pub fetched : Fetched caps (s .vertex) (g .vertices) p
-  pub describes : DescribesOn caps D p
 
 -- ---- before the first render pass
 pub record Early (v : VertexState) (pipeline : Option RenderPipeline) (buffer : ℕ → Option BufferBinding) : Type 0 where
@@ -193,7 +188,7 @@ pub record Early (v : VertexState) (pipeline : Option RenderPipeline) (buffer : 
   pub unset : pipeline ≡ none
   pub empty : (i : ℕ) → buffer i ≡ none
 
-pub record Tied (caps : PrivateCapabilities) (D : ℕ → Bool) (s : State) (m : Machine) (b : Book) : Type 0 where
+pub record Tied (caps : PrivateCapabilities) (s : State) (m : Machine) (b : Book) : Type 0 where
   pub stage : m .stage ≡ b .stage
   pub sane : Sane (s .progress .phase) (b .stage)
   pub log : Agree (m .shots) (b .draws)
@@ -202,8 +197,7 @@ pub record Tied (caps : PrivateCapabilities) (D : ℕ → Bool) (s : State) (m :
   pub args : ArgsTied (s .draw) b
   pub units : Units (s .bind) (m .gl .bindings .samplers) (b .bound .samplers)
   pub lazy : Lazy (s .fixed) (m .gl .fixed)
+  pub steady : Steady (s .vertex)
   pub early : b .stage ≡ before → Early (s .vertex) (b .pipeline) (b .buffer)
-  pub slots : First (s .progress .phase) (b .stage) → Slots caps D (s .vertex) (m .gl .vertices) (b .buffer)
-  -- before its first pipeline no slot is described
-  pub bare : First (s .progress .phase) (b .stage) → b .pipeline ≡ none → (i : ℕ) → testBit (s .vertex .described) i ≡ false
-  pub piped : First (s .progress .phase) (b .stage) → (p : RenderPipeline) → b .pipeline ≡ some p → Piped caps D s (m .gl) (b .reference) p
+  pub slots : First (s .progress .phase) (b .stage) → Slots caps (s .vertex) (m .gl .vertices) (b .buffer)
+  pub piped : First (s .progress .phase) (b .stage) → (p : RenderPipeline) → b .pipeline ≡ some p → Piped caps s (m .gl) (b .reference) p

@@ -98,8 +98,8 @@ pub nothing : {A : Type 0} (f : ℕ → A) → tabulate 0 f ≡ []
 unfolding tabulate
 nothing f = refl
 
-pub started : (caps : PrivateCapabilities) (D : ℕ → Bool) (n k l : ℕ) → Tied caps D (withProgress (record { phase = Open; commands = n; bytes = k; queries = l }) startState) fresh empty
-started caps D n k l =
+pub started : (caps : PrivateCapabilities) (n k l : ℕ) → Tied caps (withProgress (record { phase = Open; commands = n; bytes = k; queries = l }) startState) fresh empty
+started caps n k l =
     record {
       stage = refl;
       sane = tt;
@@ -109,9 +109,9 @@ started caps D n k l =
       args = record { format = refl; offset = refl };
       units = record { samplers-long = refl; units-long = refl; same = λ k l. none-set k; taken = λ u l. none-taken u };
       lazy = record { bias = refl; alpha = refl; clip = λ j i. sym (le-ltb i 0 zero-le) j; targets = no-targets; primitive = λ ne. absurd (ne refl) };
+      steady = record { long = refl };
       early = λ e. record { vertex = refl; unset = refl; empty = λ i. refl };
       slots = λ l. absurd l;
-      bare = λ l. absurd l;
       piped = λ l. absurd l;
     }
   where
@@ -124,27 +124,27 @@ started caps D n k l =
     no-targets : tabulate 0 (λ i. startTarget) ≡ []
     no-targets = nothing (λ i. startTarget)
 
-module _ (caps : PrivateCapabilities) (D : ℕ → Bool) (s : State) (m : Machine) (b : Book) (T : Tied caps D s m b) where
+module _ (caps : PrivateCapabilities) (s : State) (m : Machine) (b : Book) (T : Tied caps s m b) where
   -- only the counts change
-  pub recounted : (n k l : ℕ) → Tied caps D (withProgress (record { phase = s .progress .phase; commands = n; bytes = k; queries = l }) s) m b
+  pub recounted : (n k l : ℕ) → Tied caps (withProgress (record { phase = s .progress .phase; commands = n; bytes = k; queries = l }) s) m b
   recounted n k l =
-      record { stage = T .stage; sane = T .sane; log = T .log; screen = T .screen; res = T .res; args = T .args; units = T .units; lazy = T .lazy; early = T .early; slots = T .slots; bare = T .bare; piped = λ f p e. let P = T .piped f p e in record { drawn = P .drawn; set = P .set; stenciled = P .stenciled; numbered = P .numbered; fetched = P .fetched; describes = P .describes } }
+      record { stage = T .stage; sane = T .sane; log = T .log; screen = T .screen; res = T .res; args = T .args; units = T .units; lazy = T .lazy; steady = T .steady; early = T .early; slots = T .slots; piped = λ f p e. let P = T .piped f p e in record { drawn = P .drawn; set = P .set; stenciled = P .stenciled; numbered = P .numbered; fetched = P .fetched } }
 
   -- a call whose commands set nothing and that changes only the parts that no draw finds
   pub idles : (cs : List Command) → Idle cs → (pass : PassState) (i : ImmediateState) (n k l : ℕ)
-      → Tied caps D (withProgress (record { phase = s .progress .phase; commands = n; bytes = k; queries = l }) (withPass pass (withImmediates i s))) (play m cs) b
+      → Tied caps (withProgress (record { phase = s .progress .phase; commands = n; bytes = k; queries = l }) (withPass pass (withImmediates i s))) (play m cs) b
   idles cs h pass i n k l =
-      subst (λ (x : Machine). Tied caps D (withProgress (record { phase = s .progress .phase; commands = n; bytes = k; queries = l }) (withPass pass (withImmediates i s))) x b) (sym (h m))
-      (record { stage = T .stage; sane = T .sane; log = T .log; screen = T .screen; res = T .res; args = T .args; units = T .units; lazy = T .lazy; early = T .early; slots = T .slots; bare = T .bare; piped = λ f p e. repiped (T .piped f p e) })
+      subst (λ (x : Machine). Tied caps (withProgress (record { phase = s .progress .phase; commands = n; bytes = k; queries = l }) (withPass pass (withImmediates i s))) x b) (sym (h m))
+      (record { stage = T .stage; sane = T .sane; log = T .log; screen = T .screen; res = T .res; args = T .args; units = T .units; lazy = T .lazy; steady = T .steady; early = T .early; slots = T .slots; piped = λ f p e. repiped (T .piped f p e) })
     where
-      repiped : {r : Option References} {p : RenderPipeline} → Piped caps D s (m .gl) r p → Piped caps D (withProgress (record { phase = s .progress .phase; commands = n; bytes = k; queries = l }) (withPass pass (withImmediates i s))) (m .gl) r p
-      repiped P = record { drawn = P .drawn; set = P .set; stenciled = P .stenciled; numbered = P .numbered; fetched = P .fetched; describes = P .describes }
+      repiped : {r : Option References} {p : RenderPipeline} → Piped caps s (m .gl) r p → Piped caps (withProgress (record { phase = s .progress .phase; commands = n; bytes = k; queries = l }) (withPass pass (withImmediates i s))) (m .gl) r p
+      repiped P = record { drawn = P .drawn; set = P .set; stenciled = P .stenciled; numbered = P .numbered; fetched = P .fetched }
 
   -- the same between two phases with no render pass open
   pub moves : (cs : List Command) → Idle cs → (ph : Phase) → ((st : Stage) → First ph st → ⊥) → ((st : Stage) → Sane ph st) → (pass : PassState) (n k l : ℕ)
-      → Tied caps D (withProgress (record { phase = ph; commands = n; bytes = k; queries = l }) (withPass pass s)) (play m cs) b
+      → Tied caps (withProgress (record { phase = ph; commands = n; bytes = k; queries = l }) (withPass pass s)) (play m cs) b
   moves cs h ph shut fine pass n k l =
-      subst (λ (x : Machine). Tied caps D (withProgress (record { phase = ph; commands = n; bytes = k; queries = l }) (withPass pass s)) x b) (sym (h m))
+      subst (λ (x : Machine). Tied caps (withProgress (record { phase = ph; commands = n; bytes = k; queries = l }) (withPass pass s)) x b) (sym (h m))
       (record {
         stage = T .stage;
         sane = fine (b .stage);
@@ -154,8 +154,8 @@ module _ (caps : PrivateCapabilities) (D : ℕ → Bool) (s : State) (m : Machin
         args = T .args;
         units = T .units;
         lazy = T .lazy;
+        steady = T .steady;
         early = T .early;
         slots = λ f. absurd (shut (b .stage) f);
-        bare = λ f. absurd (shut (b .stage) f);
         piped = λ f. absurd (shut (b .stage) f);
       })

@@ -26,6 +26,10 @@ pub mod Theorem
 pub mod Ran
 pub mod Pages
 pub mod Same
+pub mod OneNumber
+pub mod Twin
+pub mod AsRust
+pub mod RanAsRust
 pub mod Complete
 pub mod NotEmpty
 pub mod Worked
@@ -33,6 +37,8 @@ pub mod Samples
 pub mod Cases
 pub mod EdgeSamples
 pub mod Edges
+pub mod Numbers
+pub mod RustWitness
 pub mod Readings
 pub mod Witness
 pub mod OnBoards

@@ -38,6 +38,14 @@ pub and-right : (a b : Bool) → a && b ≡ true → b ≡ true
 and-right true b e = e
 and-right false b e = false-true e
 
+pub and-true : (a : Bool) → a && true ≡ a
+and-true true = refl
+and-true false = refl
+
+pub and-false : (a : Bool) → a && false ≡ false
+and-false true = refl
+and-false false = refl
+
 pub and-false-left : (a b : Bool) → a && b ≡ false → b ≡ true → a ≡ false
 and-false-left true b e f = true-false (sym f ∙ e)
 and-false-left false b e f = refl

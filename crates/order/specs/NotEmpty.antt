@@ -90,14 +90,14 @@ unfolding tabulate
 all-table zero f h = tt
 all-table (suc n) f h = (h 0 (omega arith), all-table n (λ i. f (suc i)) (λ i l. h (suc i) (omega arith)))
 
-module _ (caps : PrivateCapabilities) (D : ℕ → Bool) (rooms : Rooms) (s : State) (m : Machine) (b : Book) (T : Tied caps D s m b) where
+module _ (caps : PrivateCapabilities) (rooms : Rooms) (s : State) (m : Machine) (b : Book) (T : Tied caps s m b) where
   fetched : (R : Ready b) → s .progress .phase ≡ Render → b .stage ≡ first → Fetched caps (s .vertex) (m .gl .vertices) (R .pipeline)
   fetched R ph st = T .piped (subst (λ (q : Phase). First q (b .stage)) (sym ph) (is-first (b .stage) st)) (R .pipeline) (R .is) .fetched
 
   drew : s .progress .phase ≡ Render → (b .stage ≡ first → Ready b) → Opened b → (w : ℕ) (indexed : Bool) (c : Command) → b .stage ≡ first → Complete (names b w indexed c)
   drew ph P O w indexed c st = let F = fetched (P st) ph st in complete-named b (P st) w indexed c (F .ranged) (F .described) (O st)
 
-  kept : (c : Call) → accepted (outcomeOf rooms s (meaning caps s c)) ≡ true → Premise caps D b c → Opened b → All (b .draws) → Opened (enter caps b c) × All (enter caps b c .draws)
+  kept : (c : Call) → accepted (outcomeOf rooms s (meaning caps s c)) ≡ true → Premise b c → Opened b → All (b .draws) → Opened (enter caps b c) × All (enter caps b c .draws)
   kept begin-encoding e P O A = ((λ st. let z : _≡_ {A = ℕ} 0 1 = cc in absurd (omega arith)), tt)
   kept (begin-render-pass d label set) e P O A = ((λ st. (refl, refl)), A)
   kept (set-viewport r d) e P O A = ((λ st. (refl, O st .1)), A)
@@ -138,17 +138,17 @@ module _ (caps : PrivateCapabilities) (D : ℕ → Bool) (rooms : Rooms) (s : St
       let ph = render-is (s .progress .phase) (in-phase rooms s (meaning caps s (draw-indexed-indirect raw offset n)) e) in
       (O, all-first (b .stage) _ (b .draws) A (λ st. all-table n _ (λ i l. drew ph (λ x. P x (omega arith)) O _ true _ st)))
 
-all-kept : (caps : PrivateCapabilities) (rooms : Rooms) (D : ℕ → Bool) (r : Recording) (b : Book) (cs : List Call) → Right caps D r b → Premises caps D b (fed caps rooms (r .state) cs)
+all-kept : (caps : PrivateCapabilities) (rooms : Rooms) (r : Recording) (b : Book) (cs : List Call) → Right caps r b → Premises caps b (fed caps rooms (r .state) cs)
     → Opened b → All (b .draws) → All (bookOf caps b (fed caps rooms (r .state) cs) .draws)
 unfolding fed Premises bookOf
-all-kept caps rooms D r b [] R P O A = A
-all-kept caps rooms D r b (c ∷ cs) R P O A =
+all-kept caps rooms r b [] R P O A = A
+all-kept caps rooms r b (c ∷ cs) R P O A =
     let K = go (carried caps rooms (r .state) c) refl in
-    all-kept caps rooms D (record-call caps rooms r c) (enterFed caps b (record { call = c; accepted = carried caps rooms (r .state) c })) cs
-    (one-call caps rooms D r b c R (P .0)) (P .1) (K .0) (K .1)
+    all-kept caps rooms (record-call caps rooms r c) (enterFed caps b (record { call = c; accepted = carried caps rooms (r .state) c })) cs
+    (one-call caps rooms r b c R (P .0)) (P .1) (K .0) (K .1)
   where
     go : (t : Bool) → carried caps rooms (r .state) c ≡ t → Opened (cond t (enter caps b c) b) × All (cond t (enter caps b c) b .draws)
-    go true e = kept caps D rooms (r .state) (play fresh (r .list)) b (R .tied) c e (P .0 e) O A
+    go true e = kept caps rooms (r .state) (play fresh (r .list)) b (R .tied) c e (P .0 e) O A
     go false e = (O, A)
 
 each-view : (ds : List Entered) → All ds → Each Complete (named ds)
@@ -159,21 +159,21 @@ not-first : before ≡ first → ⊥
 not-first e = let z : _≡_ {A = ℕ} 0 1 = cc in absurd (omega arith)
 
 -- so what each draw finds is there
-pub not-empty : (caps : PrivateCapabilities) (rooms : Rooms) (s : State) (calls : List Call) (D : ℕ → Bool)
-    → carried caps rooms s begin-encoding ≡ true → Premises caps D empty (fed caps rooms (begun caps rooms s .state) calls)
+pub not-empty : (caps : PrivateCapabilities) (rooms : Rooms) (s : State) (calls : List Call)
+    → carried caps rooms s begin-encoding ≡ true → Premises caps empty (fed caps rooms (begun caps rooms s .state) calls)
     → Each Complete (found (entries caps rooms s calls) (shots caps rooms s calls))
-not-empty caps rooms s calls D e P =
-    subst (Each Complete) (sym (order caps rooms s calls D e P .1))
-    (each-view (entries caps rooms s calls) (all-kept caps rooms D (begun caps rooms s) empty calls (began caps rooms D s e) P (λ st. absurd (not-first st)) tt))
+not-empty caps rooms s calls e P =
+    subst (Each Complete) (sym (order caps rooms s calls e P .1))
+    (each-view (entries caps rooms s calls) (all-kept caps rooms (begun caps rooms s) empty calls (began caps rooms s e) P (λ st. absurd (not-first st)) tt))
 
 -- the same of a run of the code
-pub not-empty-of-run : (caps : PrivateCapabilities) (s₀ s′ : State) (r₀ r r′ : Runs) (a : Answer) (calls : List Call) (D : ℕ → Bool)
-    → Did caps s₀ r₀ begin-encoding a r → a .outcome ≡ Done → (R : Ran caps (a .state) r calls s′ r′) → Premises caps D empty (answers R)
+pub not-empty-of-run : (caps : PrivateCapabilities) (s₀ s′ : State) (r₀ r r′ : Runs) (a : Answer) (calls : List Call)
+    → Did caps s₀ r₀ begin-encoding a r → a .outcome ≡ Done → (R : Ran caps (a .state) r calls s′ r′) → Premises caps empty (answers R)
     → Each Complete (found (bookOf caps empty (answers R) .draws) (play fresh (commandsOf s′ r′) .shots))
-not-empty-of-run caps s₀ s′ r₀ r r′ a calls D d e R P =
-    let B = begun-run caps s₀ r₀ r a D d e in
+not-empty-of-run caps s₀ s′ r₀ r r′ a calls d e R P =
+    let B = begun-run caps s₀ r₀ r a d e in
     let same : answers R ≡ fed caps (roomsOf r) (a .state) calls = answers-are caps R (B .within) in
-    subst (Each Complete) (sym (order-of-run caps s₀ s′ r₀ r r′ a calls D d e R P .1))
+    subst (Each Complete) (sym (order-of-run caps s₀ s′ r₀ r r′ a calls d e R P .1))
     (each-view (bookOf caps empty (answers R) .draws)
     (subst (λ (fs : List Fed). All (bookOf caps empty fs .draws)) (sym same)
-    (all-kept caps (roomsOf r) D (record { state = a .state; list = [] }) empty calls (B .right) (subst (Premises caps D empty) same P) (λ st. absurd (not-first st)) tt)))
+    (all-kept caps (roomsOf r) (record { state = a .state; list = [] }) empty calls (B .right) (subst (Premises caps empty) same P) (λ st. absurd (not-first st)) tt)))

@@ -185,10 +185,7 @@ unfolding record-calls fed bookOf enterGroup outcomeOf smallest some? badUnits a
 fed-are = (refl, refl, refl)
 
 -- ---- its premises, on every board
-abbrev slots01 : ℕ → Bool
-slots01 i = known (describes one i)
-
-its-premises : (caps : PrivateCapabilities) → Premises caps slots01 empty its-fed
+its-premises : (caps : PrivateCapabilities) → Premises caps empty its-fed
 unfolding Premises enterGroup
 its-premises caps =
     (λ a. tt)
@@ -200,7 +197,7 @@ its-premises caps =
     ⨾ (λ a. tt)
     ⨾ (λ a. tt)
     ⨾ (λ a. tt)
-    ⨾ (λ a st l f i h. refl)
+    ⨾ (λ a. tt)
     ⨾ (λ a. tt)
     ⨾ (λ a. tt)
     ⨾ (λ a. tt)
@@ -209,11 +206,11 @@ its-premises caps =
     ⨾ (λ a st. ready-2 one refl refl refl refl)
     ⨾ (λ a. tt)
     ⨾ (λ a st. ready-2 one refl refl refl refl)
-    ⨾ (λ a st l f i h. refl)
+    ⨾ (λ a. tt)
     ⨾ (λ a st some. ready-2 two refl refl refl refl)
     ⨾ (λ a. tt)
     ⨾ (λ a. tt)
-    ⨾ (λ a st l f i h. refl)
+    ⨾ (λ a. tt)
     ⨾ (λ a st. ready-2 one refl refl refl refl)
     ⨾ (λ a. tt)
     ⨾ tt
@@ -328,7 +325,7 @@ its-views = (on emulated (fed-are .0) refl, on bare (fed-are .1) refl, on full (
   where
     on : (caps : PrivateCapabilities) → fedOn caps ≡ its-fed → carried caps rooms startState begin-encoding ≡ true → foundOn caps ≡ named (bookOf caps empty its-fed .draws)
     on caps e begins =
-        order caps rooms startState calls slots01 begins (subst (Premises caps slots01 empty) (sym e) (its-premises caps)) .1
+        order caps rooms startState calls begins (subst (Premises caps empty) (sym e) (its-premises caps)) .1
         ∙ ap (λ (fs : List Fed). named (bookOf caps empty fs .draws)) e
 
 its-draws-are : (map see (foundOn emulated) ≡ its-draws 60 36) × (map see (foundOn bare) ≡ its-draws 60 36) × (map see (foundOn full) ≡ its-draws 20 20)

@@ -109,17 +109,14 @@ unfolding fed outcomeOf smallest some? badUnits among twice testBit bitAt setBit
 fed-are = (refl, refl)
 
 -- ---- the premises
-abbrev slot0 : ℕ → Bool
-slot0 i = known (describes (fetching 0) i)
-
-short-premises : Premises emulated slot0 empty short-fed
+short-premises : Premises emulated empty short-fed
 unfolding Premises
-short-premises = (λ a. tt) ⨾ (λ a st l f i h. refl) ⨾ (λ a. tt) ⨾ (λ a st. ready-1 (fetching 0) refl refl refl) ⨾ tt
+short-premises = (λ a. tt) ⨾ (λ a. tt) ⨾ (λ a. tt) ⨾ (λ a st. ready-1 (fetching 0) refl refl refl) ⨾ tt
 
-long-premises : Premises emulated slot0 empty long-fed
+long-premises : Premises emulated empty long-fed
 unfolding Premises
 long-premises =
-    (λ a. tt) ⨾ (λ a st l f i h. refl) ⨾ (λ a. tt) ⨾ (λ a. tt) ⨾ (λ a. tt) ⨾ (λ a. tt) ⨾ (λ a st l f i h. refl) ⨾ (λ a. tt) ⨾ (λ a st. ready-1 (fetching 0) refl refl refl) ⨾ tt
+    (λ a. tt) ⨾ (λ a. tt) ⨾ (λ a. tt) ⨾ (λ a. tt) ⨾ (λ a. tt) ⨾ (λ a. tt) ⨾ (λ a. tt) ⨾ (λ a. tt) ⨾ (λ a st. ready-1 (fetching 0) refl refl refl) ⨾ tt
 
 -- ---- the draw call and its page
 same-calls : callsOf (drawCalls emulated short-fed) ≡ callsOf (drawCalls emulated long-fed)
@@ -160,11 +157,11 @@ pub no-draw-differs : (length (shots emulated rooms startState short) ≡ length
     × (found (entries emulated rooms startState short) (shots emulated rooms startState short) ≡ found (entries emulated rooms startState short) (shots emulated rooms startState long))
 unfolding outcomeOf smallest some? badUnits among twice testBit
 no-draw-differs =
-    same-order emulated rooms rooms startState startState short long slot0 slot0 refl (premised (fed-are .0) short-premises) refl (premised (fed-are .1) long-premises)
+    same-order emulated rooms rooms startState startState short long refl (premised (fed-are .0) short-premises) refl (premised (fed-are .1) long-premises)
     (ap calls (fed-are .0) ∙ same-calls ∙ sym (ap calls (fed-are .1))) (ap pages (fed-are .0) ∙ same-pages ∙ sym (ap pages (fed-are .1)))
   where
-    premised : {fs gs : List Fed} → fs ≡ gs → Premises emulated slot0 empty gs → Premises emulated slot0 empty fs
-    premised e P = subst (Premises emulated slot0 empty) (sym e) P
+    premised : {fs gs : List Fed} → fs ≡ gs → Premises emulated empty gs → Premises emulated empty fs
+    premised e P = subst (Premises emulated empty) (sym e) P
 
     calls : List Fed → List Call
     calls fs = callsOf (drawCalls emulated fs)

@@ -9,7 +9,7 @@ use lib.Dec.{eqb}
 use lib.Bits.{bitOr}
 use lib.ListN.{length, take, getD}
 use borrow.Author.Tests.{eqb-true, eq-eqb}
-use Rattle.tables.specs.Tabulate.{tabulate, long, at-place, upd, upd-same, upd-other}
+use Rattle.tables.specs.Tabulate.{tabulate, at-place, upd, upd-same, upd-other}
 use Rattle.mask.specs.Mask.{testBit}
 use Rattle.mask.specs.Laws.{test-or}
 use Rattle.mask.specs.By.{maskBy, by-at}
@@ -24,14 +24,14 @@ use Rattle.records.specs.declared.pipeline.PrivateCapabilities.{PrivateCapabili
 use Rattle.records.specs.declared.pipeline.RenderPipeline.{RenderPipeline}
 use Rattle.records.specs.declared.state.VertexSlot.{VertexSlot}
 use Rattle.records.specs.declared.state.VertexState.{VertexState}
-use Rattle.slots.specs.Vertex.{stepOf, isInstance, slotAt, descAt, bindingAt, attributesOf}
+use Rattle.slots.specs.Vertex.{stepOf, isInstance, slotAt, descAt, bindingAt, instanceAt, attributesOf}
 use Rattle.slots.specs.Prepare.{instanceOffset, slotDesc, slotOffset, slotsOf}
 use Rattle.pipeline.specs.Vertex.{pipeDesc, attributesIn, has, sameStep, sameDesc, changes, stepsByInstance, stepOr, describedSlot, changedSlots, dirtyBefore, pipelineVertex, descOr, vertexOutOfRange, vertexAbsent, vertexTwice}
 use Rattle.order.specs.Lists.{false-true, true-false, or-left, or-right, and-left, and-right, not-false, some-none, none-some, Each, each-always}
 use Rattle.order.specs.Machine.{Attribute, VertexBuffer, Vertices, putAttribute}
 use Rattle.order.specs.Sweep.{folded, unfolded, allSet}
-use Rattle.order.specs.Invariant.{slotBuffer, attributeBuffer, sentAttribute, Slots, Fetched, DescribesOn}
-use Rattle.order.specs.Prepared.{desc-some, Ranged, ranged-each}
+use Rattle.order.specs.Invariant.{slotBuffer, attributeBuffer, sentAttribute, Slots, Fetched}
+use Rattle.order.specs.Prepared.{desc-some, members, Ranged, ranged-each}
 
 -- the pipeline's description where it has one, and else the state's
 abbrev pub orOld : Option VertexBufferDesc → Option VertexBufferDesc → Option VertexBufferDesc
@@ -53,19 +53,6 @@ same-desc a b e =
     let p = same-step (a .step) (b .step) (and-left (sameStep (a .step) (b .step)) (eqb (a .stride) (b .stride)) e) in
     let q = eqb-true (a .stride) (b .stride) (and-right (sameStep (a .step) (b .step)) (eqb (a .stride) (b .stride)) e) in
     λ j. record { step = p j; stride = q j }
-
--- each slot of a list of attributes stands in it
-pub members : (l : List AttributeDesc) → Each (λ (a : AttributeDesc). among (a .«buffer_index») (slotsOf l) ≡ true) l
-unfolding among
-members l = part l l (λ x e. e)
-  where
-    part : (k l : List AttributeDesc) → ((x : ℕ) → among x (slotsOf k) ≡ true → among x (slotsOf l) ≡ true) → Each (λ (a : AttributeDesc). among (a .«buffer_index») (slotsOf l) ≡ true) k
-    part [] l h = tt
-    part (a ∷ k) l h = (h (a .«buffer_index») (rw (eq-eqb (a .«buffer_index») (a .«buffer_index») refl)), part k l (λ x e. h x (more (eqb x (a .«buffer_index»)) (among x (slotsOf k)) e)))
-      where
-        more : (s t : Bool) → t ≡ true → s || t ≡ true
-        more true t e = refl
-        more false t e = e
 
 module _ (caps : PrivateCapabilities) (p : RenderPipeline) (v : VertexState) where
   abbrev v′ : VertexState
@@ -149,24 +136,21 @@ module _ (caps : PrivateCapabilities) (p : RenderPipeline) (v : VertexState) whe
       λ j. record { binding = record { raw = r j; offset = o j + instanceOffset (e j .step) w (e j .stride) }; desc = e j }
 
   -- ---- the slots
-  pub slots-piped : (D : ℕ → Bool) (g g′ : Vertices) (buffer : ℕ → Option BufferBinding) → Slots caps D v g buffer → DescribesOn caps D p → (caps .«vertex_buffer_layout» ≡ true → g′ .buffer ≡ g .buffer) → Slots caps D v′ g′ buffer
-  slots-piped D g g′ buffer S P kept =
+  pub slots-piped : (g g′ : Vertices) (buffer : ℕ → Option BufferBinding) → Slots caps v g buffer → (caps .«vertex_buffer_layout» ≡ true → g′ .buffer ≡ g .buffer) → Slots caps v′ g′ buffer
+  slots-piped g g′ buffer S kept =
       record {
-        long = long 16 (λ i. describedSlot (pipeDesc p i) (slotAt v i));
-        bound = λ i l. binding-after i l ∙ S .bound i l;
-        still = S .still;
-        only = λ layout full i l e. described-bit i l ∙ ap₂ (λ (a b : Bool). a || b) (S .only layout full i l e) (P layout full i l ∙ e);
+        bound = λ i l h. binding-after i l ∙ S .bound i l h;
         clean = clean;
       }
     where
-      clean : caps .«vertex_buffer_layout» ≡ true → (i : ℕ) → i < 16 → testBit (v′ .«dirty_vbuf_mask») i ≡ false → testBit (v′ .described) i ≡ true → testBit (v′ .bound) i ≡ true
-          → g′ .buffer i ≡ some (slotBuffer v′ (v′ .«active_first_instance») i)
-      clean layout i l e d b =
+      clean : caps .«vertex_buffer_layout» ≡ true → (i : ℕ) → i < 16 → has (buffer i) ≡ true → testBit (v′ .«dirty_vbuf_mask») i ≡ false → testBit (v′ .described) i ≡ true → testBit (v′ .bound) i ≡ true
+          → g′ .buffer i ≡ some (slotBuffer v′ (instanceAt v′ i) i)
+      clean layout i l h e d b =
           let was = dirty-was i l e in
           let u = unchanged i l (was .1) d in
           ap (λ (f : ℕ → Option VertexBuffer). f i) (kept layout)
-          ∙ S .clean layout i l (subst (λ (t : Bool). testBit (cond t (v .«dirty_vbuf_mask») (maskBy 16 (λ i. among i (slotsOf (attributesIn p))))) i ≡ false) layout (was .0)) (u .0) b
-          ∙ ap some (sym (buffer-same (v .«active_first_instance») i l (u .1)))
+          ∙ S .clean layout i l h (subst (λ (t : Bool). testBit (cond t (v .«dirty_vbuf_mask») (maskBy 16 (λ i. among i (slotsOf (attributesIn p))))) i ≡ false) layout (was .0)) (u .0) b
+          ∙ ap some (sym (buffer-same (instanceAt v i) i l (u .1)))
 
   -- ---- the pipeline's attributes
   instances-after : (i : ℕ) → i < 16 → testBit (v′ .«instance_vbuf_mask») i ≡ stepsByInstance (pipeDesc p i)
@@ -217,6 +201,6 @@ module _ (caps : PrivateCapabilities) (p : RenderPipeline) (v : VertexState) whe
       slots-low (a ∷ l) h = (h .0 .1, slots-low l (h .1))
 
       never : (l : List AttributeDesc) → Each (λ (a : AttributeDesc). testBit (v′ .«dirty_vbuf_mask») (a .«buffer_index») ≡ true) l
-          → Each (λ (a : AttributeDesc). testBit (v′ .«dirty_vbuf_mask») (a .«buffer_index») ≡ false → testBit (v′ .bound) (a .«buffer_index») ≡ true → g′ .attribute (a .location) ≡ some (attributeBuffer v′ (v′ .«active_first_instance») a)) l
+          → Each (λ (a : AttributeDesc). testBit (v′ .«dirty_vbuf_mask») (a .«buffer_index») ≡ false → testBit (v′ .bound) (a .«buffer_index») ≡ true → g′ .attribute (a .location) ≡ some (attributeBuffer v′ (instanceAt v′ (a .«buffer_index»)) a)) l
       never [] h = tt
       never (a ∷ l) h = ((λ e b. true-false (sym (h .0) ∙ e)), never l (h .1))

@@ -305,17 +305,17 @@ answers-are caps {s} {s′} {r} {r′} (then {r₁ = r₁} {c = c} {cs = cs} a d
     λ j. record { call = c; accepted = t j } ∷ I j
 
 -- where a run begins: after a `begin_encoding` that answered `Done`
-pub record Begun (caps : PrivateCapabilities) (D : ℕ → Bool) (r : Runs) (a : Answer) : Type 0 where
+pub record Begun (caps : PrivateCapabilities) (r : Runs) (a : Answer) : Type 0 where
   pub within : Within (a .state) r
   pub nothing : commandsOf (a .state) r ≡ []
-  pub right : Right caps D (record { state = a .state; list = [] }) empty
+  pub right : Right caps (record { state = a .state; list = [] }) empty
 
-pub begun-run : (caps : PrivateCapabilities) (s₀ : State) (r₀ r : Runs) (a : Answer) (D : ℕ → Bool) → Did caps s₀ r₀ begin-encoding a r → a .outcome ≡ Done → Begun caps D r a
-begun-run caps s₀ r₀ r a D d e =
+pub begun-run : (caps : PrivateCapabilities) (s₀ : State) (r₀ r : Runs) (a : Answer) → Did caps s₀ r₀ begin-encoding a r → a .outcome ≡ Done → Begun caps r a
+begun-run caps s₀ r₀ r a d e =
     record {
       within = subst (λ (x : State). Within x r) (sym fresh-state) (record { commands = zero-le; bytes = zero-le; queries = zero-le });
       nothing = ap (λ (x : State). map (λ (y : Record). y .command) (take (x .progress .commands) (r .commands))) fresh-state;
-      right = subst (λ (x : State). Right caps D (record { state = x; list = [] }) empty) (sym (d .state)) (began caps (roomsOf r₀) D s₀ carries);
+      right = subst (λ (x : State). Right caps (record { state = x; list = [] }) empty) (sym (d .state)) (began caps (roomsOf r₀) s₀ carries);
     }
   where
     carries : carried caps (roomsOf r₀) s₀ begin-encoding ≡ true
@@ -325,18 +325,18 @@ begun-run caps s₀ r₀ r a D d e =
     fresh-state = d .state ∙ ap (λ (t : Bool). cond t (withProgress (progressAfter (meaning caps s₀ begin-encoding)) (meaning caps s₀ begin-encoding .after)) s₀) carries
 
 -- THE ORDER THEOREM of the code's own answers, states and lists: for any run after a `begin_encoding` that answered `Done`, in which each call did what its contract says
-pub order-of-run : (caps : PrivateCapabilities) (s₀ s′ : State) (r₀ r r′ : Runs) (a : Answer) (calls : List Call) (D : ℕ → Bool)
+pub order-of-run : (caps : PrivateCapabilities) (s₀ s′ : State) (r₀ r r′ : Runs) (a : Answer) (calls : List Call)
     → Did caps s₀ r₀ begin-encoding a r → a .outcome ≡ Done → (R : Ran caps (a .state) r calls s′ r′)
-    → Premises caps D empty (answers R)
+    → Premises caps empty (answers R)
     → (length (play fresh (commandsOf s′ r′) .shots) ≡ length (bookOf caps empty (answers R) .draws))
     × (found (bookOf caps empty (answers R) .draws) (play fresh (commandsOf s′ r′) .shots) ≡ named (bookOf caps empty (answers R) .draws))
-order-of-run caps s₀ s′ r₀ r r′ a calls D d e R P =
+order-of-run caps s₀ s′ r₀ r r′ a calls d e R P =
     subst
     (λ (fs : List Fed). (length (play fresh (commandsOf s′ r′) .shots) ≡ length (bookOf caps empty fs .draws)) × (found (bookOf caps empty fs .draws) (play fresh (commandsOf s′ r′) .shots) ≡ named (bookOf caps empty fs .draws)))
     (sym same) (as-many (play fresh (commandsOf s′ r′) .shots) ds agree, found-is (play fresh (commandsOf s′ r′) .shots) ds agree)
   where
-    B : Begun caps D r a
-    B = begun-run caps s₀ r₀ r a D d e
+    B : Begun caps r a
+    B = begun-run caps s₀ r₀ r a d e
 
     same : answers R ≡ fed caps (roomsOf r) (a .state) calls
     same = answers-are caps R (B .within)
@@ -350,4 +350,4 @@ order-of-run caps s₀ s′ r₀ r r′ a calls D d e R P =
     agree : Agree (play fresh (commandsOf s′ r′) .shots) ds
     agree =
         subst (λ (l : List Command). Agree (play fresh l .shots) ds) (sym list)
-        (all-calls caps (roomsOf r) D (record { state = a .state; list = [] }) empty calls (B .right) (subst (Premises caps D empty) same P) .tied .log)
+        (all-calls caps (roomsOf r) (record { state = a .state; list = [] }) empty calls (B .right) (subst (Premises caps empty) same P) .tied .log)

@@ -41,9 +41,9 @@ fed caps rooms s [] = []
 fed caps rooms s (c ∷ cs) = record { call = c; accepted = carried caps rooms s c } ∷ fed caps rooms (step caps rooms s c .state) cs
 
 -- the premises, at each accepted call
-unfoldable pub Premises : PrivateCapabilities → (ℕ → Bool) → Book → List Fed → Type 0
-Premises caps D b [] = Unit {0}
-Premises caps D b (f ∷ fs) = (f .accepted ≡ true → Premise caps D b (f .call)) × Premises caps D (enterFed caps b f) fs
+unfoldable pub Premises : PrivateCapabilities → Book → List Fed → Type 0
+Premises caps b [] = Unit {0}
+Premises caps b (f ∷ fs) = (f .accepted ≡ true → Premise b (f .call)) × Premises caps (enterFed caps b f) fs
 
 -- an encoder that has just begun, whatever was handed in
 abbrev pub begun : PrivateCapabilities → Rooms → State → Recording

@@ -138,26 +138,26 @@ same-found ss ts ds es a b e = (a .0 ∙ ap length e ∙ sym (b .0), a .1 ∙ ap
 
 -- THE CLAIM'S SECOND SENTENCE: "for every two such lists on one board, whose first render passes have .. the same accepted draw calls in the same order,
 -- and whose books agree at each draw in every entry: both command lists have equally many draws there, and no draw differs"
-pub same-order : (caps : PrivateCapabilities) (rooms rooms′ : Rooms) (s s′ : State) (calls calls′ : List Call) (D D′ : ℕ → Bool)
-    → carried caps rooms s begin-encoding ≡ true → Premises caps D empty (fed caps rooms (begun caps rooms s .state) calls)
-    → carried caps rooms′ s′ begin-encoding ≡ true → Premises caps D′ empty (fed caps rooms′ (begun caps rooms′ s′ .state) calls′)
+pub same-order : (caps : PrivateCapabilities) (rooms rooms′ : Rooms) (s s′ : State) (calls calls′ : List Call)
+    → carried caps rooms s begin-encoding ≡ true → Premises caps empty (fed caps rooms (begun caps rooms s .state) calls)
+    → carried caps rooms′ s′ begin-encoding ≡ true → Premises caps empty (fed caps rooms′ (begun caps rooms′ s′ .state) calls′)
     → callsOf (drawCalls caps (fed caps rooms (begun caps rooms s .state) calls)) ≡ callsOf (drawCalls caps (fed caps rooms′ (begun caps rooms′ s′ .state) calls′))
     → pagesOf (drawCalls caps (fed caps rooms (begun caps rooms s .state) calls)) ≡ pagesOf (drawCalls caps (fed caps rooms′ (begun caps rooms′ s′ .state) calls′))
     → (length (shots caps rooms s calls) ≡ length (shots caps rooms′ s′ calls′))
     × (found (entries caps rooms s calls) (shots caps rooms s calls) ≡ found (entries caps rooms s calls) (shots caps rooms′ s′ calls′))
-same-order caps rooms rooms′ s s′ calls calls′ D D′ e P e′ P′ q r =
+same-order caps rooms rooms′ s s′ calls calls′ e P e′ P′ q r =
     same-found (shots caps rooms s calls) (shots caps rooms′ s′ calls′) (entries caps rooms s calls) (entries caps rooms′ s′ calls′)
-    (order caps rooms s calls D e P) (order caps rooms′ s′ calls′ D′ e′ P′)
+    (order caps rooms s calls e P) (order caps rooms′ s′ calls′ e′ P′)
     (same-draws caps (fed caps rooms (begun caps rooms s .state) calls) (fed caps rooms′ (begun caps rooms′ s′ .state) calls′) q r)
 
 -- the same of two runs of the code, by what its functions answered
-pub same-order-of-run : (caps : PrivateCapabilities) (s₀ t₀ s′ t′ : State) (r₀ r r′ q₀ q q′ : Runs) (a b : Answer) (calls calls′ : List Call) (D D′ : ℕ → Bool)
-    → Did caps s₀ r₀ begin-encoding a r → a .outcome ≡ Done → (R : Ran caps (a .state) r calls s′ r′) → Premises caps D empty (answers R)
-    → Did caps t₀ q₀ begin-encoding b q → b .outcome ≡ Done → (Q : Ran caps (b .state) q calls′ t′ q′) → Premises caps D′ empty (answers Q)
+pub same-order-of-run : (caps : PrivateCapabilities) (s₀ t₀ s′ t′ : State) (r₀ r r′ q₀ q q′ : Runs) (a b : Answer) (calls calls′ : List Call)
+    → Did caps s₀ r₀ begin-encoding a r → a .outcome ≡ Done → (R : Ran caps (a .state) r calls s′ r′) → Premises caps empty (answers R)
+    → Did caps t₀ q₀ begin-encoding b q → b .outcome ≡ Done → (Q : Ran caps (b .state) q calls′ t′ q′) → Premises caps empty (answers Q)
     → callsOf (drawCalls caps (answers R)) ≡ callsOf (drawCalls caps (answers Q))
     → pagesOf (drawCalls caps (answers R)) ≡ pagesOf (drawCalls caps (answers Q))
     → (length (play fresh (commandsOf s′ r′) .shots) ≡ length (play fresh (commandsOf t′ q′) .shots))
     × (found (bookOf caps empty (answers R) .draws) (play fresh (commandsOf s′ r′) .shots) ≡ found (bookOf caps empty (answers R) .draws) (play fresh (commandsOf t′ q′) .shots))
-same-order-of-run caps s₀ t₀ s′ t′ r₀ r r′ q₀ q q′ a b calls calls′ D D′ d e R P d′ e′ Q P′ x y =
+same-order-of-run caps s₀ t₀ s′ t′ r₀ r r′ q₀ q q′ a b calls calls′ d e R P d′ e′ Q P′ x y =
     same-found (play fresh (commandsOf s′ r′) .shots) (play fresh (commandsOf t′ q′) .shots) (bookOf caps empty (answers R) .draws) (bookOf caps empty (answers Q) .draws)
-    (order-of-run caps s₀ s′ r₀ r r′ a calls D d e R P) (order-of-run caps t₀ t′ q₀ q q′ b calls′ D′ d′ e′ Q P′) (same-draws caps (answers R) (answers Q) x y)
+    (order-of-run caps s₀ s′ r₀ r r′ a calls d e R P) (order-of-run caps t₀ t′ q₀ q q′ b calls′ d′ e′ Q P′) (same-draws caps (answers R) (answers Q) x y)

@@ -27,9 +27,9 @@ entries caps rooms s calls = bookOf caps empty (fed caps rooms (begun caps rooms
 abbrev pub named : List Entered → List View
 named ds = map (λ (d : Entered). d .view) ds
 
-pub order : (caps : PrivateCapabilities) (rooms : Rooms) (s : State) (calls : List Call) (D : ℕ → Bool)
-    → carried caps rooms s begin-encoding ≡ true → Premises caps D empty (fed caps rooms (begun caps rooms s .state) calls)
+pub order : (caps : PrivateCapabilities) (rooms : Rooms) (s : State) (calls : List Call)
+    → carried caps rooms s begin-encoding ≡ true → Premises caps empty (fed caps rooms (begun caps rooms s .state) calls)
     → (length (shots caps rooms s calls) ≡ length (entries caps rooms s calls)) × (found (entries caps rooms s calls) (shots caps rooms s calls) ≡ named (entries caps rooms s calls))
-order caps rooms s calls D e P =
-    let A = all-agree caps rooms s calls D e P in
+order caps rooms s calls e P =
+    let A = all-agree caps rooms s calls e P in
     (as-many (shots caps rooms s calls) (entries caps rooms s calls) A, found-is (shots caps rooms s calls) (entries caps rooms s calls) A)

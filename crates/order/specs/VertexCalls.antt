@@ -8,7 +8,7 @@ use native.Mathlib.Omega.{arith}
 use lib.Dec.{eqb}
 use lib.ListN.{length, getD, set, length-set}
 use borrow.Author.Tests.{eqb-true, eqb-false}
-use Rattle.tables.specs.Tabulate.{tabulate, upd}
+use Rattle.tables.specs.Tabulate.{tabulate, long as long-table, upd}
 use Rattle.mask.specs.Mask.{testBit, setBit, places}
 use Rattle.mask.specs.Laws.{test-set}
 use Rattle.names.specs.Maps.{primitiveTopology}
@@ -26,11 +26,11 @@ use Rattle.records.specs.declared.state.Progress.{Progress}
 use Rattle.records.specs.declared.state.State.{State}
 use Rattle.records.specs.declared.state.VertexSlot.{VertexSlot}
 use Rattle.records.specs.declared.state.VertexState.{VertexState}
-use Rattle.slots.specs.Vertex.{stepOf, slotAt, descAt, bindingAt, attributesOf}
+use Rattle.slots.specs.Vertex.{stepOf, slotAt, descAt, bindingAt, instanceAt, attributesOf}
 use Rattle.slots.specs.Prepare.{instanceOffset, rebound, slotDesc, slotOffset, attributeOffset, bufferCommand, bufferCommands, attributeCommand, attributeCommands, sent, prepared, preparedState}
 use Rattle.bindings.specs.Units.{samplerCommands}
 use Rattle.pipeline.specs.Inner.{innerBind, innerCommands, innerImmediates, innerOutOfRange, changedUnits}
-use Rattle.pipeline.specs.Vertex.{pipeDesc, attributesIn, has, pipelineVertex, setAttribute, unsetAttribute, vertexCommands, vertexOutOfRange, vertexAbsent, vertexTwice}
+use Rattle.pipeline.specs.Vertex.{pipeDesc, attributesIn, has, describedSlot, pipelineVertex, setAttribute, unsetAttribute, vertexCommands, vertexOutOfRange, vertexAbsent, vertexTwice}
 use Rattle.pipeline.specs.Fixed.{fixedCommands, pipelineFixed}
 use Rattle.calls.specs.Parts.{withProgress, withVertex, withDraw, withFixed, withBind, withImmediates, withLocation, withTopology, drawn}
 use Rattle.calls.specs.Settings.{boundSlot}
@@ -40,8 +40,8 @@ use Rattle.order.specs.Machine.{Attribute, VertexBuffer, Vertices, Gl, S
 use Rattle.order.specs.Found.{viewOf}
 use Rattle.order.specs.Book.{References, Book, Entered, withBuffer, withPipeline, referenceOf, names}
 use Rattle.order.specs.Sweep.{play-append, folded, played, unfolded}
-use Rattle.order.specs.Invariant.{First, Sane, Agree, slotBuffer, attributeBuffer, sentAttribute, Units, Lazy, Slots, Fetched, DescribesOn, Piped, Early, Tied}
-use Rattle.order.specs.Prepared.{bufferAct, attributeAct, slot-after, attribute-kept, attributes-after}
+use Rattle.order.specs.Invariant.{First, Sane, Agree, slotBuffer, attributeBuffer, sentAttribute, Units, Lazy, Slots, Fetched, Piped, Early, Tied}
+use Rattle.order.specs.Prepared.{bufferAct, attributeAct}
 use Rattle.order.specs.PipedVertex.{slots-piped, fetched-piped}
 use Rattle.order.specs.UnitLaws.{samplerAct, number-after, units-piped}
 use Rattle.order.specs.PipedFixed.{fixedAfter, facesAfter, play-fixed, set-piped, lazy-piped, stencil-piped}
@@ -103,19 +103,21 @@ module _ (v : VertexState) (i raw offset : ℕ) (low : i < 16) (long : length (v
       or-false true = refl
       or-false false = refl
 
-  pub slots-bound : (caps : PrivateCapabilities) (D : ℕ → Bool) (g : Vertices) (buffer : ℕ → Option BufferBinding) → Slots caps D v g buffer → Slots caps D v′ g (upd buffer i (some (record { raw = raw; offset = offset })))
-  slots-bound caps D g buffer S =
+  pub slots-bound : (caps : PrivateCapabilities) (g : Vertices) (buffer : ℕ → Option BufferBinding) → Slots caps v g buffer → Slots caps v′ g (upd buffer i (some (record { raw = raw; offset = offset })))
+  slots-bound caps g buffer S =
       record {
-        long = length-set (v .buffers) i slot′ ∙ long;
-        bound = λ j l. binding-is j ∙ ap (cond (eqb j i) (some (record { raw = raw; offset = offset }))) (S .bound j l);
-        still = S .still;
-        only = S .only;
-        clean = λ layout j l e d b.
+        bound = λ j l h. binding-is j ∙ now (eqb j i) (buffer j) (bindingAt v j) (S .bound j l) h;
+        clean = λ layout j l h e d b.
             let o = other j e in
             let x = slot-same j (o .1) in
-            S .clean layout j l (o .0) d (sym (bound-same j (o .1)) ∙ b)
-            ∙ sym (λ k. some (record { binding = record { raw = x k .raw; offset = x k .offset + instanceOffset (stepOf (testBit (v .«by_instance») j)) (v .«active_first_instance») (x k .stride) }; desc = record { step = stepOf (testBit (v .«by_instance») j); stride = x k .stride } }));
+            S .clean layout j l (subst (λ (t : Bool). has (cond t (some (record { raw = raw; offset = offset })) (buffer j)) ≡ true) (o .1) h) (o .0) d (sym (bound-same j (o .1)) ∙ b)
+            ∙ sym (λ k. some (record { binding = record { raw = x k .raw; offset = x k .offset + instanceOffset (stepOf (testBit (v .«by_instance») j)) (instanceAt v j) (x k .stride) }; desc = record { step = stepOf (testBit (v .«by_instance») j); stride = x k .stride } }));
       }
+    where
+      now : (t : Bool) (o x : Option BufferBinding) → (has o ≡ true → x ≡ o) → has (cond t (some (record { raw = raw; offset = offset })) o) ≡ true
+          → cond t (some (record { raw = raw; offset = offset })) x ≡ cond t (some (record { raw = raw; offset = offset })) o
+      now true o x q h = refl
+      now false o x q h = q h
 
   pub fetched-bound : (caps : PrivateCapabilities) (g : Vertices) (p : RenderPipeline) → Fetched caps v g p → Fetched caps v′ g p
   fetched-bound caps g p F =
@@ -131,8 +133,8 @@ module _ (v : VertexState) (i raw offset : ℕ) (low : i < 16) (long : length (v
       }
     where
       go : (l : List AttributeDesc)
-          → Each (λ (a : AttributeDesc). testBit (v .«dirty_vbuf_mask») (a .«buffer_index») ≡ false → testBit (v .bound) (a .«buffer_index») ≡ true → g .attribute (a .location) ≡ some (attributeBuffer v (v .«active_first_instance») a)) l
-          → Each (λ (a : AttributeDesc). testBit (v′ .«dirty_vbuf_mask») (a .«buffer_index») ≡ false → testBit (v′ .bound) (a .«buffer_index») ≡ true → g .attribute (a .location) ≡ some (attributeBuffer v′ (v .«active_first_instance») a)) l
+          → Each (λ (a : AttributeDesc). testBit (v .«dirty_vbuf_mask») (a .«buffer_index») ≡ false → testBit (v .bound) (a .«buffer_index») ≡ true → g .attribute (a .location) ≡ some (attributeBuffer v (instanceAt v (a .«buffer_index»)) a)) l
+          → Each (λ (a : AttributeDesc). testBit (v′ .«dirty_vbuf_mask») (a .«buffer_index») ≡ false → testBit (v′ .bound) (a .«buffer_index») ≡ true → g .attribute (a .location) ≡ some (attributeBuffer v′ (instanceAt v (a .«buffer_index»)) a)) l
       go [] h = tt
       go (a ∷ l) h = (
         (λ e b.
@@ -148,7 +150,7 @@ module _ (v : VertexState) (i raw offset : ℕ) (low : i < 16) (long : length (v
               attribute =
                   record {
                     location = a .location;
-                    offset = a .offset + x k .offset + instanceOffset (stepOf (testBit (v .«by_instance») (a .«buffer_index»))) (v .«active_first_instance») (x k .stride);
+                    offset = a .offset + x k .offset + instanceOffset (stepOf (testBit (v .«by_instance») (a .«buffer_index»))) (instanceAt v (a .«buffer_index»)) (x k .stride);
                     «buffer_index» = a .«buffer_index»;
                     «format_desc» = a .«format_desc»;
                   };
@@ -207,12 +209,12 @@ play-pipeline caps p s m =
     m₁ : Machine
     m₁ = withGlFixed (putProgram (p .inner .program) (m .gl .fixed)) (withVertices (vertexPlayed caps p (s .vertex) (m .gl .vertices)) m)
 
-module _ (caps : PrivateCapabilities) (D : ℕ → Bool) (s : State) (m : Machine) (b : Book) (T : Tied caps D s m b) (ph : s .progress .phase ≡ Render) where
+module _ (caps : PrivateCapabilities) (s : State) (m : Machine) (b : Book) (T : Tied caps s m b) (ph : s .progress .phase ≡ Render) where
   not-before : b .stage ≡ before → ⊥
   not-before e = late (b .stage) (subst (λ (p : Phase). Sane p (b .stage)) ph (T .sane)) e
 
   pub by-vertex-buffer : (i raw offset : ℕ) → i < 16 → (n k l : ℕ)
-      → Tied caps D (withProgress (counted (s .progress .phase) n k l) (withVertex (boundSlot i raw offset (s .vertex)) s)) m (withBuffer i (record { raw = raw; offset = offset }) b)
+      → Tied caps (withProgress (counted (s .progress .phase) n k l) (withVertex (boundSlot i raw offset (s .vertex)) s)) m (withBuffer i (record { raw = raw; offset = offset }) b)
   by-vertex-buffer i raw offset low n k l =
       record {
         stage = T .stage;
@@ -223,9 +225,9 @@ module _ (caps : PrivateCapabilities) (D : ℕ → Bool) (s : State) (m : Machin
         args = record { format = T .args .format; offset = T .args .offset };
         units = T .units;
         lazy = T .lazy;
+        steady = record { long = length-set (s .vertex .buffers) i (record { stride = slotAt (s .vertex) i .stride; raw = raw; offset = offset }) ∙ T .steady .long };
         early = λ e. absurd (not-before e);
-        slots = λ f. slots-bound (s .vertex) i raw offset low (T .slots f .long) caps D (m .gl .vertices) (b .buffer) (T .slots f);
-        bare = T .bare;
+        slots = λ f. slots-bound (s .vertex) i raw offset low (T .steady .long) caps (m .gl .vertices) (b .buffer) (T .slots f);
         piped = λ f p e.
             let P = T .piped f p e in
             record {
@@ -233,22 +235,21 @@ module _ (caps : PrivateCapabilities) (D : ℕ → Bool) (s : State) (m : Machin
               set = P .set;
               stenciled = P .stenciled;
               numbered = P .numbered;
-              fetched = fetched-bound (s .vertex) i raw offset low (T .slots f .long) caps (m .gl .vertices) p (P .fetched);
-              describes = P .describes;
+              fetched = fetched-bound (s .vertex) i raw offset low (T .steady .long) caps (m .gl .vertices) p (P .fetched);
             };
       }
 
-  pub by-render-pipeline : (p : RenderPipeline) → vertexOutOfRange p ≡ false → innerOutOfRange (p .inner) ≡ false → vertexAbsent p ≡ false → vertexTwice p ≡ false → (b .stage ≡ first → DescribesOn caps D p) → (n k l : ℕ)
-      → Tied caps D
+  pub by-render-pipeline : (p : RenderPipeline) → vertexOutOfRange p ≡ false → innerOutOfRange (p .inner) ≡ false → vertexAbsent p ≡ false → vertexTwice p ≡ false → (n k l : ℕ)
+      → Tied caps
       (withProgress (counted (s .progress .phase) n k l)
       (withVertex (pipelineVertex caps p (s .vertex))
       (withDraw (withTopology (primitiveTopology (p .topology)) (withLocation (p .inner .«first_instance_location») (s .draw)))
       (withFixed (pipelineFixed p (s .fixed)) (withBind (innerBind (p .inner) (s .bind)) (withImmediates (innerImmediates (p .inner) (s .immediates)) s))))))
       (play m (vertexCommands caps p (s .vertex) ++ (innerCommands (p .inner) (s .bind) ++ fixedCommands p (s .fixed)))) (withPipeline (some p) (referenceOf (p .stencil)) b)
   unfolding piped-machine
-  by-render-pipeline p range inner absent twice describes n k l =
+  by-render-pipeline p range inner absent twice n k l =
       subst
-      (λ (x : Machine). Tied caps D
+      (λ (x : Machine). Tied caps
       (withProgress (counted (s .progress .phase) n k l)
       (withVertex (pipelineVertex caps p (s .vertex))
       (withDraw (withTopology (primitiveTopology (p .topology)) (withLocation (p .inner .«first_instance_location») (s .draw)))
@@ -264,10 +265,10 @@ module _ (caps : PrivateCapabilities) (D : ℕ → Bool) (s : State) (m : Machin
         args = record { format = T .args .format; offset = T .args .offset };
         units = units-piped (p .inner) (s .bind) (m .gl .bindings) (b .bound .samplers) (T .units);
         lazy = lazy-piped p (s .fixed) (putProgram (p .inner .program) (m .gl .fixed)) L;
+        steady = record { long = long-table 16 (λ i. describedSlot (pipeDesc p i) (slotAt (s .vertex) i)) };
         early = λ e. absurd (not-before e);
-        slots = λ f. slots-piped caps p (s .vertex) D (m .gl .vertices) (vertexPlayed caps p (s .vertex) (m .gl .vertices)) (b .buffer) (T .slots f) (describes (in-first f)) (λ layout. vertex-buffers caps p (s .vertex) (m .gl .vertices));
-        bare = λ f e. none-some (sym e);
-        piped = λ f q e. subst (λ (x : RenderPipeline). Piped caps D s′ (piped-machine caps p s m .gl) (referenceOf (p .stencil)) x) (some-same p q e) (new f);
+        slots = λ f. slots-piped caps p (s .vertex) (m .gl .vertices) (vertexPlayed caps p (s .vertex) (m .gl .vertices)) (b .buffer) (T .slots f) (λ layout. vertex-buffers caps p (s .vertex) (m .gl .vertices));
+        piped = λ f q e. subst (λ (x : RenderPipeline). Piped caps s′ (piped-machine caps p s m .gl) (referenceOf (p .stencil)) x) (some-same p q e) (new f);
       })
     where
       s′ : State
@@ -284,18 +285,10 @@ module _ (caps : PrivateCapabilities) (D : ℕ → Bool) (s : State) (m : Machin
           from d none = d
           from d (some z) = z
 
-      in-first : First (s .progress .phase) (b .stage) → b .stage ≡ first
-      in-first f = first-of (b .stage) (subst (λ (q : Phase). First q (b .stage)) ph f)
-        where
-          first-of : (st : Stage) → First Render st → st ≡ first
-          first-of before l = absurd l
-          first-of first l = refl
-          first-of later l = absurd l
-
       L : Lazy (s .fixed) (putProgram (p .inner .program) (m .gl .fixed))
       L = record { bias = T .lazy .bias; alpha = T .lazy .alpha; clip = T .lazy .clip; targets = T .lazy .targets; primitive = T .lazy .primitive }
 
-      new : First (s .progress .phase) (b .stage) → Piped caps D s′ (piped-machine caps p s m .gl) (referenceOf (p .stencil)) p
+      new : First (s .progress .phase) (b .stage) → Piped caps s′ (piped-machine caps p s m .gl) (referenceOf (p .stencil)) p
       new f =
           record {
             drawn = record { topology = refl; location = refl };
@@ -303,5 +296,4 @@ module _ (caps : PrivateCapabilities) (D : ℕ → Bool) (s : State) (m : Machin
             stenciled = stencil-piped p (s .fixed) (m .gl .faces);
             numbered = record { number = λ u h. number-after (p .inner) (s .bind) u h; low = inner };
             fetched = fetched-piped caps p (s .vertex) range absent twice (m .gl .vertices) (vertexPlayed caps p (s .vertex) (m .gl .vertices)) (vertex-sent caps p (s .vertex) (m .gl .vertices));
-            describes = describes (in-first f);
           }

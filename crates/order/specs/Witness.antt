@@ -30,7 +30,6 @@ use Rattle.bindings.specs.Group.{zipped, groupCommands, groupState, texturesNam
 use Rattle.bindings.specs.Units.{samplerCommands}
 use Rattle.pipeline.specs.Inner.{noBind, changedUnits}
 use Rattle.pipeline.specs.Fixed.{sameTargets}
-use Rattle.pipeline.specs.Vertex.{has, pipeDesc}
 use Rattle.pass.specs.Render.{fullDepth, beginRenderCommands, attachColors, resolvesFrom, invalidations, clearColors}
 use Rattle.calls.specs.Call.{Call, end-render-pass, set-render-pipeline, set-index-buffer, set-vertex-buffer, draw-indexed, draw-indirect}
 use Rattle.calls.specs.Draws.{indirectCommands}
@@ -39,7 +38,7 @@ use Rattle.order.specs.View.{Fetch, BufferRange, View}
 use Rattle.order.specs.Machine.{fresh, play}
 use Rattle.order.specs.Found.{fetchAt}
 use Rattle.order.specs.Book.{Fed, empty, namedFetch, enterGroup, bookOf}
-use Rattle.order.specs.Worked.{ready-2, _⨾_}
+use Rattle.order.specs.Worked.{ready-0, ready-1, ready-2, _⨾_}
 use Rattle.order.specs.Run.{record-calls, fed, Premises, begun}
 use Rattle.order.specs.Induction.{found}
 use Rattle.order.specs.Theorem.{shots, entries, named, order}
@@ -182,23 +181,20 @@ unfolding record-calls fed bookOf enterGroup outcomeOf smallest some? badUnits a
 its-draws-are = (refl, refl)
 
 -- its premises hold: both pipelines describe slots 0 and 1, and these have buffers at each draw
-abbrev slots01 : ℕ → Bool
-slots01 i = has (pipeDesc C i)
-
-its-premises : Premises emulated slots01 empty (fedOf worked)
+its-premises : Premises emulated empty (fedOf worked)
 unfolding Premises record-calls fed bookOf enterGroup outcomeOf smallest some? badUnits among twice testBit bitAt setBit without maskOf placesFrom maskBy
     tabulate bufferCommands zipped groupCommands groupState texturesNamed samplersNamed offsetsUsed groupOver samplerCommands changedUnits sameTargets
     beginRenderCommands attachColors resolvesFrom invalidations clearColors indirectCommands
 its-premises =
     (λ a. tt)
-    ⨾ (λ a st l f i h. refl)
+    ⨾ (λ a. tt)
     ⨾ (λ a. tt)
     ⨾ (λ a. tt)
     ⨾ (λ a. tt)
     ⨾ (λ a. tt)
     ⨾ (λ a st. ready-2 C refl refl refl refl)
     ⨾ (λ a st. ready-2 C refl refl refl refl)
-    ⨾ (λ a st l f i h. refl)
+    ⨾ (λ a. tt)
     ⨾ (λ a. tt)
     ⨾ (λ a st. ready-2 E refl refl refl refl)
     ⨾ (λ a st some. ready-2 E refl refl refl refl)
@@ -208,12 +204,12 @@ its-premises =
 -- so, by the theorem, all of each view
 its-views : foundBy worked ≡ namedBy worked
 unfolding outcomeOf smallest some? badUnits among twice testBit
-its-views = order emulated rooms startState worked slots01 refl its-premises .1
+its-views = order emulated rooms startState worked refl its-premises .1
 
--- ---- the second premise is needed
--- B describes no slot, so the draw at 5 does not mark slot 0, and A, whose description is as it was, does not either
-abbrev stale : List Call
-stale =
+-- ---- pipelines that describe different slots
+-- B describes no slot, so the draw at 5 does not mark slot 0; A's next draw does, since slot 0 was last bound with 0
+abbrev mixed : List Call
+mixed =
     barePass
     ∷ set-render-pipeline (fetching 0)
     ∷ set-vertex-buffer 0 7 16
@@ -231,14 +227,33 @@ from first = some (record { location = 0; format = floats; slot = 0; source = so
 abbrev fetchesOf : List View → List (List (Option Fetch))
 fetchesOf vs = map (λ (v : View). v .fetches) vs
 
--- at the third draw the machine fetches from byte 16, and the book names 56
-stale-fetches :
-    (fetchesOf (foundBy stale) ≡ (from 16 ∷ []) ∷ [] ∷ (from 16 ∷ []) ∷ [])
-    × (fetchesOf (namedBy stale) ≡ (from 16 ∷ []) ∷ [] ∷ (from 56 ∷ []) ∷ [])
+-- the third draw fetches from byte 56
+mixed-fetches :
+    (fetchesOf (foundBy mixed) ≡ (from 16 ∷ []) ∷ [] ∷ (from 56 ∷ []) ∷ [])
+    × (fetchesOf (namedBy mixed) ≡ (from 16 ∷ []) ∷ [] ∷ (from 56 ∷ []) ∷ [])
 unfolding record-calls fed bookOf enterGroup outcomeOf smallest some? badUnits among twice testBit bitAt setBit without maskOf placesFrom maskBy tabulate
     bufferCommands zipped groupCommands groupState texturesNamed samplersNamed offsetsUsed groupOver samplerCommands changedUnits sameTargets
     beginRenderCommands attachColors resolvesFrom invalidations clearColors indirectCommands
-stale-fetches = (refl, refl)
+mixed-fetches = (refl, refl)
+
+-- its premises hold, so the theorem says it of all of each view
+mixed-premises : Premises emulated empty (fedOf mixed)
+unfolding Premises record-calls fed bookOf enterGroup outcomeOf smallest some? badUnits among twice testBit bitAt setBit without maskOf placesFrom maskBy
+    tabulate bufferCommands samplerCommands changedUnits sameTargets beginRenderCommands attachColors resolvesFrom invalidations clearColors
+mixed-premises =
+    (λ a. tt)
+    ⨾ (λ a. tt)
+    ⨾ (λ a. tt)
+    ⨾ (λ a st. ready-1 (fetching 0) refl refl refl)
+    ⨾ (λ a. tt)
+    ⨾ (λ a st. ready-0 B refl refl)
+    ⨾ (λ a. tt)
+    ⨾ (λ a st. ready-1 (fetching 0) refl refl refl)
+    ⨾ tt
+
+mixed-views : foundBy mixed ≡ namedBy mixed
+unfolding outcomeOf smallest some? badUnits among twice testBit
+mixed-views = order emulated rooms startState mixed refl mixed-premises .1
 
 -- ---- "the first render pass" is needed
 -- `end_render_pass` forgets the first instance and the masks, and the slot keeps its offset: at 0 in the next pass nothing is marked

@@ -20,7 +20,13 @@ ready {b} p is buffers = record { pipeline = p; is = is; bound = λ i l h. go i 
     go i d true q h = buffers i (ltb-true i (p .«vertex_buffer_count») q)
     go i d false q h = false-true h
 
--- of one slot, and of two
+-- of no slot, of one, and of two
+pub ready-0 : {b : Book} (p : RenderPipeline) → b .pipeline ≡ some p → p .«vertex_buffer_count» ≡ 0 → Ready b
+ready-0 p is n = ready p is (λ i l. absurd (none-below (subst (λ (k : ℕ). i < k) n l)))
+  where
+    none-below : {i : ℕ} → i < 0 → ⊥
+    none-below l = omega (arith, l)
+
 pub ready-1 : {b : Book} (p : RenderPipeline) → b .pipeline ≡ some p → p .«vertex_buffer_count» ≡ 1 → known (b .buffer 0) ≡ true → Ready b
 ready-1 {b} p is n zeroth = ready p is (λ i l. at i (subst (λ (k : ℕ). i < k) n l))
   where

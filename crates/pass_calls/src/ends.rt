@@ -12,20 +12,21 @@ use crate::ended::plan_end;
 use crate::ended::record_ended;
 use names::gl::PrimitiveState;
 use records::command::Record;
+use records::limits::MAX_VERTEX_BUFFERS;
 use records::pipeline::PrivateCapabilities;
 use records::state::Answer;
 use records::state::FixedState;
 use records::state::State;
 use records::state::VertexState;
 
-// No attribute, no dirty slot, no slot by instance, no first instance.
+// No attribute, no dirty slot, no slot by instance, and no slot remembers an instance.
 fn end_vertex(v: VertexState) -> VertexState
     ensures { λ r. ⌜ r ≡ endVertex v ⌝ }
 {
     let mut next = v;
     next.dirty_vbuf_mask = 0;
     next.attribute_count = 0;
-    next.active_first_instance = 0;
+    next.instances = [0; MAX_VERTEX_BUFFERS];
     next.instance_vbuf_mask = 0;
     next
 }

@@ -90,7 +90,7 @@ pipelineVertex caps p v =
       «dirty_vbuf_mask» = bitOr (dirtyBefore caps p v) (changedSlots p v);
       buffers = tabulate 16 (λ i. describedSlot (pipeDesc p i) (slotAt v i));
       «attribute_count» = cond (caps .«vertex_buffer_layout») (v .«attribute_count») (p .«vertex_attribute_count»);
-      «active_first_instance» = v .«active_first_instance»;
+      instances = v .instances;
       «instance_vbuf_mask» = maskBy 16 (λ i. stepsByInstance (pipeDesc p i));
       attributes = cond (caps .«vertex_buffer_layout») (v .attributes) (p .«vertex_attributes»);
     }

@@ -190,14 +190,15 @@ pub fn pipeline_vertex(caps: PrivateCapabilities, p: RenderPipeline, v: VertexSt
     let changed = changed_slots(layouts, count, v);
     let buffers = strided_slots(layouts, count, old);
     let attributes = attributes_after(caps, p, v);
+    let instances = v.instances;
     VertexState {
         described: v.described | described,
         bound: v.bound,
         by_instance: stepped_slots(layouts, count, v.by_instance),
         dirty_vbuf_mask: dirty | changed,
         buffers,
+        instances,
         attribute_count: count_after(caps, p, v),
-        active_first_instance: v.active_first_instance,
         instance_vbuf_mask: instance_slots(layouts, count),
         attributes,
     }

@@ -43,7 +43,7 @@ vertices dirty count places =
       «dirty_vbuf_mask» = dirty;
       buffers = startVertex .buffers;
       «attribute_count» = count;
-      «active_first_instance» = 0;
+      instances = startVertex .instances;
       «instance_vbuf_mask» = 0;
       attributes = map at places;
     })

@@ -56,7 +56,7 @@ startVertex =
       «dirty_vbuf_mask» = 0;
       buffers = replicate 16 startSlot;
       «attribute_count» = 0;
-      «active_first_instance» = 0;
+      instances = replicate 16 0;
       «instance_vbuf_mask» = 0;
       attributes = replicate 16 startAttribute;
     }

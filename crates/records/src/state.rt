@@ -85,8 +85,9 @@ pub struct VertexState {
     pub by_instance: u32,
     pub dirty_vbuf_mask: u32,
     pub buffers: [VertexSlot; MAX_VERTEX_BUFFERS],
+    // The working instance that each slot was last bound with, in this pass.
+    pub instances: [u32; MAX_VERTEX_BUFFERS],
     pub attribute_count: usize,
-    pub active_first_instance: u32,
     // Which slots the current pipeline steps by instance.
     pub instance_vbuf_mask: u32,
     pub attributes: [AttributeDesc; MAX_VERTEX_ATTRIBUTES],
@@ -104,8 +105,8 @@ impl VertexState {
             by_instance: 0,
             dirty_vbuf_mask: 0,
             buffers: [slot; MAX_VERTEX_BUFFERS],
+            instances: [0; MAX_VERTEX_BUFFERS],
             attribute_count: 0,
-            active_first_instance: 0,
             instance_vbuf_mask: 0,
             attributes: [attribute; MAX_VERTEX_ATTRIBUTES],
         }

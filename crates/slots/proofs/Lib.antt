@@ -4,3 +4,4 @@ pub mod Masks
 pub mod Parts
 pub mod Places
 pub mod Product
+pub mod Numbers

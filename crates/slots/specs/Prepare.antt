@@ -4,6 +4,8 @@ use mathlib.Core.Bool.{Bool, cond, not, _&&_}
 use mathlib.Core.List.{List, [], _∷_, map}
 use lib.Dec.{eqb, ltb}
 use lib.Bits.{bitAnd, bitOr}
+use lib.ListN.{getD}
+use Rattle.tables.specs.Tabulate.{tabulate}
 use Rattle.mask.specs.Mask.{testBit, without, places}
 use Rattle.mask.specs.By.{maskBy}
 use Rattle.records.specs.Check.{some?, among}
@@ -16,15 +18,18 @@ use Rattle.records.specs.declared.command.VertexBufferDesc.{VertexBufferDesc}
 use Rattle.records.specs.declared.command.AttributeDesc.{AttributeDesc}
 use Rattle.records.specs.declared.pipeline.PrivateCapabilities.{PrivateCapabilities}
 use Rattle.records.specs.declared.state.VertexState.{VertexState}
-use Rattle.slots.specs.Vertex.{stepOf, slotAt, attributesOf}
+use Rattle.slots.specs.Vertex.{stepOf, slotAt, instanceAt, attributesOf, stepped}
 
 -- "Without FULLY_FEATURED_INSTANCING the working instance is the draw's first instance, else 0"
 abbrev pub working : PrivateCapabilities → ℕ → ℕ
 working caps first = cond (caps .«fully_featured_instancing») 0 first
 
--- "If it differs from the last, the pipeline's instance slots join the dirty mask"
+-- document 02, request 5: "an instance slot of the pass's last pipeline becomes dirty when its own number differs"
+abbrev pub moved : VertexState → ℕ → ℕ
+moved v w = maskBy 16 (λ i. testBit (v .«instance_vbuf_mask») i && not (eqb w (instanceAt v i)))
+
 abbrev pub woken : VertexState → ℕ → ℕ
-woken v w = cond (eqb w (v .«active_first_instance»)) (v .«dirty_vbuf_mask») (bitOr (v .«dirty_vbuf_mask») (v .«instance_vbuf_mask»))
+woken v w = bitOr (v .«dirty_vbuf_mask») (moved v w)
 
 -- "the slots to rebind are those dirty, described and bound"
 abbrev pub rebound : VertexState → ℕ → ℕ
@@ -82,24 +87,17 @@ slotsOf l = map (λ (a : AttributeDesc). a .«buffer_index») l
 abbrev pub cleared : PrivateCapabilities → VertexState → ℕ → ℕ
 cleared caps v w = cond (caps .«vertex_buffer_layout») (rebound v w) (maskBy 16 (λ i. among i (slotsOf (sent v w))))
 
+-- "Each slot shall remember the working instance that it was last bound with": the slots that lose their bit
+abbrev pub remembered : List ℕ → ℕ → ℕ → List ℕ
+remembered numbers m w = tabulate 16 (λ i. cond (testBit m i) w (getD numbers i 0))
+
 -- what a draw records before its own command
 abbrev pub prepared : PrivateCapabilities → VertexState → ℕ → List Command
 prepared caps v w = cond (caps .«vertex_buffer_layout») (bufferCommands v w) (attributeCommands v w)
 
 -- and what it makes of the vertex part
 abbrev pub preparedState : PrivateCapabilities → VertexState → ℕ → VertexState
-preparedState caps v w =
-    record {
-      described = v .described;
-      bound = v .bound;
-      «by_instance» = v .«by_instance»;
-      «dirty_vbuf_mask» = without (woken v w) (cleared caps v w);
-      buffers = v .buffers;
-      «attribute_count» = v .«attribute_count»;
-      «active_first_instance» = w;
-      «instance_vbuf_mask» = v .«instance_vbuf_mask»;
-      attributes = v .attributes;
-    }
+preparedState caps v w = stepped v (without (woken v w) (cleared caps v w)) (remembered (v .instances) (cleared caps v w) w)
 
 -- 6: the product in 32 bits, and the sums in the fields that take them
 abbrev pub slotOver : VertexState → ℕ → ℕ → Bool

@@ -33,6 +33,25 @@ descAt v i = cond (testBit (v .described) i) (some (record { step = stepOf (test
 abbrev pub bindingAt : VertexState → ℕ → Option BufferBinding
 bindingAt v i = cond (testBit (v .bound) i) (some (record { raw = slotAt v i .raw; offset = slotAt v i .offset })) none
 
+-- the working instance that slot i was last bound with, in this pass
+abbrev pub instanceAt : VertexState → ℕ → ℕ
+instanceAt v i = getD (v .instances) i 0
+
 -- the attributes that the state holds
 abbrev pub attributesOf : VertexState → List AttributeDesc
 attributesOf v = take (v .«attribute_count») (v .attributes)
+
+-- the vertex part with another dirty mask and other instances
+abbrev pub stepped : VertexState → ℕ → List ℕ → VertexState
+stepped v dirty instances =
+    record {
+      described = v .described;
+      bound = v .bound;
+      «by_instance» = v .«by_instance»;
+      «dirty_vbuf_mask» = dirty;
+      buffers = v .buffers;
+      «attribute_count» = v .«attribute_count»;
+      instances = instances;
+      «instance_vbuf_mask» = v .«instance_vbuf_mask»;
+      attributes = v .attributes;
+    }

@@ -2,7 +2,7 @@
 // are worked out by count and place. The contracts cite specs/Prepare.antt.
 ghost use mathlib.Core.Path.{_≡_};
 ghost use Rattle.slots.specs.Vertex.{slotAt, stepOf};
-ghost use Rattle.slots.specs.Prepare.{working as workingOf, woken as wokenOf, rebound as reboundOf, instanceOffset, slotOffset, slotOver, attributeOver};
+ghost use Rattle.slots.specs.Prepare.{working as workingOf, moved as movedOf, woken as wokenOf, instanceOffset, slotOffset, slotOver, attributeOver};
 ghost use Rattle.mask.specs.Mask.{digitOf};
 
 pub mod command;
@@ -26,23 +26,31 @@ pub fn working(caps: PrivateCapabilities, first: u32) -> u32
     }
 }
 
+// The slots that the current pipeline steps by instance and that were not last bound with w.
+fn moved(v: VertexState, w: u32) -> u32
+    ensures { λ r. ⌜ r ≡ movedOf v w ⌝ }
+{
+    if v.instance_vbuf_mask == 0 {
+        return 0;
+    }
+    let instances = v.instances;
+    let mut slots: u32 = 0;
+    let mut i: u32 = 0;
+    while i < 16 {
+        let at = i as usize;
+        let own = instances[at];
+        let differs = mask::test(v.instance_vbuf_mask, i) & (w != own);
+        slots = mask::set_if(slots, i, differs);
+        i = i + 1;
+    }
+    slots
+}
+
 // The dirty mask at a draw.
 pub fn woken(v: VertexState, w: u32) -> u32
     ensures { λ r. ⌜ r ≡ wokenOf v w ⌝ }
 {
-    if w == v.active_first_instance {
-        v.dirty_vbuf_mask
-    } else {
-        v.dirty_vbuf_mask | v.instance_vbuf_mask
-    }
-}
-
-// The slots to rebind, by masks alone.
-pub fn rebound(v: VertexState, w: u32) -> u32
-    ensures { λ r. ⌜ r ≡ reboundOf v w ⌝ }
-{
-    let dirty = woken(v, w);
-    dirty & v.described & v.bound
+    v.dirty_vbuf_mask | moved(v, w)
 }
 
 pub fn slot_at(v: VertexState, i: u32) -> VertexSlot

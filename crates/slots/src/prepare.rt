@@ -2,28 +2,29 @@
 // and which slots lose their dirty bit.
 ghost use mathlib.Core.Path.{_≡_};
 ghost use Prim.Native.Nat.{_<_};
+ghost use mathlib.Core.Bool.{cond};
 ghost use lib.ListN.{length};
 ghost use Rattle.mask.specs.Mask.{maskOf, places};
 ghost use Rattle.records.specs.Check.{some?};
 ghost use Rattle.slots.specs.Vertex.{attributesOf};
-ghost use Rattle.slots.specs.Prepare.{rebound as reboundOf, slotOver, prepared, preparedOver, preparedState};
+ghost use Rattle.slots.specs.Prepare.{slotOver, cleared, prepared, preparedOver, preparedState, remembered as rememberedOf};
 ghost use Rattle.slots.specs.Sent.{sentFlags, preparedPlaces};
 ghost use Rattle.slots.specs.Sweep.{sweepOne, swept};
 use crate::attribute_over;
-use crate::rebound;
 use crate::slot_over;
 use crate::woken;
 use records::check::within;
 use records::command::AttributeDesc;
 use records::limits::MAX_VERTEX_ATTRIBUTES;
+use records::limits::MAX_VERTEX_BUFFERS;
 use records::pipeline::PrivateCapabilities;
 use records::state::VertexState;
 
-// Whether a slot to be rebound is over, with layouts.
-fn slots_over(v: VertexState, w: u32) -> bool
-    ensures { λ r. ⌜ r ≡ some? (slotOver v w) (places (reboundOf v w)) ⌝ }
+// Whether a slot of m is over, with layouts.
+fn slots_over(v: VertexState, w: u32, m: u32) -> bool
+    ensures { λ r. ⌜ r ≡ some? (slotOver v w) (places m) ⌝ }
 {
-    let mut left = rebound(v, w);
+    let mut left = m;
     let mut over = false;
     while 0 < left {
         let i = mask::lowest(left);
@@ -57,10 +58,9 @@ fn sweep_attribute(m: u32, v: VertexState, w: u32, s: Sweep, a: AttributeDesc) -
     }
 }
 
-fn sweep_attributes(v: VertexState, w: u32) -> Sweep
-    ensures { λ r. ⌜ r ≡ swept (reboundOf v w) v w (attributesOf v) ⌝ }
+fn sweep_attributes(v: VertexState, w: u32, m: u32) -> Sweep
+    ensures { λ r. ⌜ r ≡ swept m v w (attributesOf v) ⌝ }
 {
-    let m = rebound(v, w);
     let mut left = within(v.attribute_count, MAX_VERTEX_ATTRIBUTES);
     let mut sweep = Sweep {
         count: 0,
@@ -94,33 +94,67 @@ fn sent_attributes(v: VertexState, m: u32) -> u32
 }
 
 // What a draw's slots come to: how many commands, the slots or attributes that get one, the dirty
-// mask after them, and whether a product or sum leaves its field.
+// mask after them, the slots that lost their bit, and whether a product or sum leaves its field.
 pub struct Prepared {
     pub count: u32,
     pub places: u32,
     pub dirty: u32,
+    pub cleared: u32,
     pub over: bool,
 }
 
 pub fn prepare(caps: PrivateCapabilities, v: VertexState, w: u32) -> Prepared
-    ensures { λ r. ⌜ (r .count ≡ length (prepared caps v w)) × (r .places ≡ preparedPlaces caps v w) × (r .dirty ≡ preparedState caps v w .«dirty_vbuf_mask») × (r .over ≡ preparedOver caps v w) ⌝ }
+    ensures { λ r. ⌜
+        (r .count ≡ length (prepared caps v w))
+        × (r .places ≡ preparedPlaces caps v w)
+        × (r .dirty ≡ preparedState caps v w .«dirty_vbuf_mask»)
+        × (r .cleared ≡ cleared caps v w)
+        × (r .over ≡ preparedOver caps v w)
+        ⌝ }
 {
-    let m = rebound(v, w);
     let dirty = woken(v, w);
+    let m = dirty & v.described & v.bound;
     if caps.vertex_buffer_layout {
         Prepared {
             count: mask::count(m),
             places: m,
             dirty: mask::without(dirty, m),
-            over: slots_over(v, w),
+            cleared: m,
+            over: slots_over(v, w, m),
         }
     } else {
-        let sweep = sweep_attributes(v, w);
+        let sweep = sweep_attributes(v, w, m);
         Prepared {
             count: sweep.count,
             places: sent_attributes(v, m),
             dirty: mask::without(dirty, sweep.slots),
+            cleared: sweep.slots,
             over: sweep.over,
         }
     }
+}
+
+// The numbers of the slots after a draw: those of m remember its instance.
+pub fn remembered(instances: [u32; MAX_VERTEX_BUFFERS], m: u32, w: u32) -> [u32; MAX_VERTEX_BUFFERS]
+    ensures { λ r. ⌜ r ≡ rememberedOf instances m w ⌝ }
+{
+    if m == 0 {
+        return instances;
+    }
+    let mut next = instances;
+    let mut i: u32 = 0;
+    while i < 16 {
+        let at = i as usize;
+        let own = next[at];
+        let number = chosen(mask::test(m, i), w, own);
+        next[at] = number;
+        i = i + 1;
+    }
+    next
+}
+
+fn chosen(bound: bool, new: u32, old: u32) -> u32
+    ensures { λ r. ⌜ r ≡ cond bound new old ⌝ }
+{
+    if bound { new } else { old }
 }

@@ -19,8 +19,10 @@ use Rattle.records.specs.declared.command.OptionBlend.the-variants.{None, Some}
 use Rattle.records.specs.declared.state.FixedState.{FixedState}
 use Rattle.records.specs.declared.state.ImmediateState.{ImmediateState}
 use Rattle.records.specs.declared.state.State.{State}
+use Rattle.records.specs.declared.state.VertexState.{VertexState}
 use Rattle.records.proofs.state.FixedState.{the-type as the-fixed}
 use Rattle.records.proofs.state.ImmediateState.{the-type as the-immediates}
+use Rattle.records.proofs.state.VertexState.{the-type as the-vertex}
 use Rattle.text.specs.declared.field.Field.{Field}
 use Rattle.text.specs.declared.field.Shown.{Shown}
 use Rattle.state_text.specs.declared.rows.Told.{Told}
@@ -54,6 +56,10 @@ targets-long s vs g = long _ (s .«color_targets») 8 (g .1 .1 .1 .0 .1 .0 .1)
 -- field 2
 pub words-long : (s : ImmediateState) (vs : List Val) → Is (row the-immediates) s vs → length (s .words) ≡ 64
 words-long s vs g = long _ (s .words) 64 (g .1 .1 .1 .1 .0 .1 .0 .1)
+
+-- field 5
+pub instances-long : (s : VertexState) (vs : List Val) → Is (row the-vertex) s vs → length (s .instances) ≡ 16
+instances-long s vs g = long _ (s .instances) 16 (g .1 .1 .1 .1 .1 .1 .1 .0 .1 .0 .1)
 
 -- within a list the default is of no account
 pub within : {A : Type 0} (l : List A) (i : ℕ) (d e : A) → i < length l → getD l i d ≡ getD l i e

@@ -25,7 +25,7 @@ use Rattle.records.specs.declared.state.ImmediateState.{ImmediateState}
 use Rattle.records.specs.declared.state.State.{State}
 use Rattle.text.specs.declared.field.Field.{Field}
 use Rattle.text.specs.declared.field.Field.the-variants.{Number, Long, Signed, Flag, Bits, Optional, Absent, Text}
-use Rattle.text.specs.declared.field.Word.the-variants.{DirtyMask, ActiveFirstInstance}
+use Rattle.text.specs.declared.field.Word.the-variants.{DirtyMask}
 use Rattle.text.specs.Digits.{ascii}
 use Rattle.text.specs.Field.{spaced}
 use Rattle.text.specs.Command.{formatFields, blendFields}
@@ -116,11 +116,16 @@ resolveFields r = Long (36064 + r .place) ∷ []
 abbrev pub attachmentOf : ℕ → ℕ
 attachmentOf i = cond (ltb i 8) (36064 + i) (cond (eqb i 8) 36096 36128)
 
--- one line of three
+-- one line of two
 abbrev pub maskFields : VertexState → List Field
-maskFields v =
-    Number (v .«instance_vbuf_mask») ∷ Text DirtyMask ∷ Number (v .«dirty_vbuf_mask»)
-    ∷ Text ActiveFirstInstance ∷ Number (v .«active_first_instance») ∷ []
+maskFields v = Number (v .«instance_vbuf_mask») ∷ Text DirtyMask ∷ Number (v .«dirty_vbuf_mask») ∷ []
+
+-- a slot whose number is not 0: the working instance that it was last bound with
+abbrev pub instanceThere : VertexState → ℕ → Bool
+instanceThere v i = not (eqb (getD (v .instances) i 0) 0)
+
+abbrev pub instanceFields : VertexState → ℕ → List Field
+instanceFields v i = Number i ∷ Number (getD (v .instances) i 0) ∷ []
 
 -- location, type, offset, size
 abbrev pub descriptorFields : ImmediateDesc → List Field
@@ -159,6 +164,7 @@ stateRows s =
     ∷ each "invalidate" 10 (testBit (p .«invalidate_attachments»)) (λ i. Number (attachmentOf i) ∷ [])
     ∷ once "has_pass_label" (Flag (p .«has_pass_label») ∷ [])
     ∷ once "instance_mask" (maskFields v)
+    ∷ each "instance" 16 (instanceThere v) (instanceFields v)
     ∷ once "first_instance_location" (Optional (d .«first_instance_location») ∷ [])
     ∷ each "descriptor" 192 (λ i. ltb i (m .count)) (λ i. descriptorFields (getD (m .descs) i startImmediate))
     ∷ each "word" 64 (wordThere m) (wordFields m)
@@ -177,7 +183,7 @@ lineAt (r ∷ rs) k = cond (ltb k (r .places)) (rowLine r k) (lineAt rs (k - r .
 
 -- how many places the table has
 abbrev pub stateCount : ℕ
-stateCount = 359
+stateCount = 375
 
 -- the state's line k, with its newline, and nothing where it is not printed
 abbrev pub stateLine : State → ℕ → List ℕ

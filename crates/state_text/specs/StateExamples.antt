@@ -30,7 +30,7 @@ start-text :
     ++ ascii "state alpha_to_coverage 0\n"
     ++ ascii "state render_size 1 1 1\n"
     ++ ascii "state has_pass_label 0\n"
-    ++ ascii "state instance_mask 0 dirty_mask 0 active_first_instance 0\n"
+    ++ ascii "state instance_mask 0 dirty_mask 0\n"
     ++ ascii "state first_instance_location -\n"
     ++ ascii "state end_of_pass_timestamp -\n"
     ++ ascii "state clip_distance_count 0\n"
@@ -50,8 +50,8 @@ inside =
             «dirty_vbuf_mask» = 8;
             buffers =
                 set (set (replicate 16 startSlot) 0 (record { stride = 8; raw = 7; offset = 16 })) 3 (record { stride = 0; raw = 7; offset = 4 });
+            instances = set (replicate 16 0) 0 5;
             «attribute_count» = 0;
-            «active_first_instance» = 5;
             «instance_vbuf_mask» = 1;
             attributes = replicate 16 startAttribute;
           };
@@ -109,7 +109,8 @@ inside-text :
     ++ ascii "state resolve 36064\n"
     ++ ascii "state invalidate 36064\n"
     ++ ascii "state has_pass_label 1\n"
-    ++ ascii "state instance_mask 1 dirty_mask 8 active_first_instance 5\n"
+    ++ ascii "state instance_mask 1 dirty_mask 8\n"
+    ++ ascii "state instance 0 5\n"
     ++ ascii "state first_instance_location 0\n"
     ++ ascii "state descriptor 3 9 4 4\n"
     ++ ascii "state word 1 305419896\n"
@@ -118,7 +119,7 @@ inside-text :
 unfolding lineAt linesTo testBit decimalIn hexIn spaced
 inside-text = refl
 
--- other lines, each in a state with its part
+-- other lines, each in a state with its part; the numbers of slots 14 and 15 are of no session
 abbrev some : State
 some =
     record {
@@ -130,8 +131,8 @@ some =
             «by_instance» = 0;
             «dirty_vbuf_mask» = 57339;
             buffers = replicate 16 startSlot;
+            instances = set (set (replicate 16 0) 14 5) 15 4294967295;
             «attribute_count» = 1;
-            «active_first_instance» = 0;
             «instance_vbuf_mask» = 17554;
             attributes =
                 set (replicate 16 startAttribute) 0
@@ -194,8 +195,12 @@ some-lines :
     × Prints 90 "state invalidate 36066\n"
     × Prints 96 "state invalidate 36096\n"
     × Prints 97 "state invalidate 36128\n"
-    × Prints 99 "state instance_mask 17554 dirty_mask 57339 active_first_instance 0\n"
-    × Prints 358 "state clip_distance_count 3\n"
-    × Prints 359 ""
+    × Prints 99 "state instance_mask 17554 dirty_mask 57339\n"
+    × Prints 113 ""
+    × Prints 114 "state instance 14 5\n"
+    × Prints 115 "state instance 15 4294967295\n"
+    × Prints 116 "state first_instance_location -\n"
+    × Prints 374 "state clip_distance_count 3\n"
+    × Prints 375 ""
 unfolding lineAt testBit decimalIn hexIn spaced
-some-lines = (refl, refl, refl, refl, refl, refl, refl, refl, refl, refl, refl, refl, refl, refl)
+some-lines = (refl, refl, refl, refl, refl, refl, refl, refl, refl, refl, refl, refl, refl, refl, refl, refl, refl, refl)

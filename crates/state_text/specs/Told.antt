@@ -40,7 +40,7 @@ rowAt s r = getD (stateRows s) r noRow
 -- how many places each row has
 abbrev pub rowPlaces : List ℕ
 rowPlaces =
-    1 ∷ 1 ∷ 1 ∷ 16 ∷ 16 ∷ 8 ∷ 1 ∷ 1 ∷ 1 ∷ 1 ∷ 16 ∷ 16 ∷ 1 ∷ 8 ∷ 10 ∷ 1 ∷ 1 ∷ 1 ∷ 192 ∷ 64 ∷ 1 ∷ 1 ∷ []
+    1 ∷ 1 ∷ 1 ∷ 16 ∷ 16 ∷ 8 ∷ 1 ∷ 1 ∷ 1 ∷ 1 ∷ 16 ∷ 16 ∷ 1 ∷ 8 ∷ 10 ∷ 1 ∷ 1 ∷ 16 ∷ 1 ∷ 192 ∷ 64 ∷ 1 ∷ 1 ∷ []
 
 pub places-are : (s : State) → map (λ r. r .places) (stateRows s) ≡ rowPlaces
 places-are s = refl

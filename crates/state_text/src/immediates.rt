@@ -29,11 +29,11 @@ fn descriptor_at(m: ImmediateState, i: u32) -> ImmediateDesc
 }
 
 pub fn descriptor(m: ImmediateState, i: u32) -> Told
-    ensures { λ r. ⌜ r ≡ toldOf (ltb i (m .count)) 67 (descriptorFields (getD (m .descs) i startImmediate)) ⌝ }
+    ensures { λ r. ⌜ r ≡ toldOf (ltb i (m .count)) 68 (descriptorFields (getD (m .descs) i startImmediate)) ⌝ }
 {
     let d = descriptor_at(m, i);
     let shown = four(
-        67,
+        68,
         4,
         Field::Number(d.location),
         Field::Number(d.ty),
@@ -58,10 +58,10 @@ fn word_at(m: ImmediateState, i: u32) -> u32
 }
 
 pub fn word(m: ImmediateState, i: u32) -> Told
-    ensures { λ r. ⌜ r ≡ toldOf (wordThere m i) 68 (wordFields m i) ⌝ }
+    ensures { λ r. ⌜ r ≡ toldOf (wordThere m i) 69 (wordFields m i) ⌝ }
 {
     let word = word_at(m, i);
-    let shown = two(68, 2, Field::Number(i), Field::Number(word));
+    let shown = two(69, 2, Field::Number(i), Field::Number(word));
     Told {
         there: word != 0,
         shown,

@@ -20,8 +20,8 @@ use records::state::State;
 use text::Wrote;
 use text::paste;
 
-// How many places the state's lines have: the lines are numbered from 0 to 358.
-pub const STATE_PLACES: u32 = 359;
+// How many places the state's lines have: the lines are numbered from 0 to 374.
+pub const STATE_PLACES: u32 = 375;
 
 // Writes the state's line k, where it is there, into `out` from `at` on, whole or not at all.
 pub fn write_state_line(out: &mut [u8], at: usize, s: State, k: u32) -> Wrote

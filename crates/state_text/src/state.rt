@@ -24,6 +24,7 @@ use crate::rows::nothing;
 use crate::rows::number;
 use crate::rows::optional;
 use crate::vertex::attribute;
+use crate::vertex::instance;
 use crate::vertex::masks;
 use crate::vertex::slot;
 use records::state::State;
@@ -37,7 +38,7 @@ pub struct Place {
     pub i: u32,
 }
 
-const ROW_PLACES: [u32; 22] = [
+const ROW_PLACES: [u32; 23] = [
     1,
     1,
     1,
@@ -55,6 +56,7 @@ const ROW_PLACES: [u32; 22] = [
     10,
     1,
     1,
+    16,
     1,
     192,
     64,
@@ -63,19 +65,19 @@ const ROW_PLACES: [u32; 22] = [
 ];
 
 fn row_places(row: usize) -> u32
-    requires { ⌜ row < 22 ⌝ }
+    requires { ⌜ row < 23 ⌝ }
     ensures { λ r. ⌜ r ≡ getD rowPlaces row 0 ⌝ }
 {
     ROW_PLACES[row]
 }
 
-// The row of place k of the table, 22 past its end.
+// The row of place k of the table, 23 past its end.
 pub fn place_of(k: u32) -> Place
-    ensures { λ r. ⌜ (r ≡ placeIn rowPlaces 0 k) × (r .row ≤ 22) ⌝ }
+    ensures { λ r. ⌜ (r ≡ placeIn rowPlaces 0 k) × (r .row ≤ 23) ⌝ }
 {
     let mut row = 0;
     let mut i = k;
-    while row < 22 {
+    while row < 23 {
         let places = row_places(row);
         if i < places {
             return Place { row, i };
@@ -88,7 +90,7 @@ pub fn place_of(k: u32) -> Place
 
 // What is shown of place i of a row.
 pub fn told(s: State, row: usize, i: u32) -> Told
-    requires { ⌜ row ≤ 22 ⌝ }
+    requires { ⌜ row ≤ 23 ⌝ }
     ensures { λ r. ⌜ TellsRow (rowAt s row) i r ⌝ }
 {
     let draw = s.draw;
@@ -113,11 +115,12 @@ pub fn told(s: State, row: usize, i: u32) -> Told
         14 => invalidate(s.pass.invalidate_attachments, i),
         15 => flag(64, s.pass.has_pass_label),
         16 => masks(s.vertex),
-        17 => optional(66, location),
-        18 => descriptor(s.immediates, i),
-        19 => word(s.immediates, i),
-        20 => optional(69, timestamp),
-        21 => number(70, s.fixed.clip_distance_count),
+        17 => instance(s.vertex, i),
+        18 => optional(67, location),
+        19 => descriptor(s.immediates, i),
+        20 => word(s.immediates, i),
+        21 => optional(70, timestamp),
+        22 => number(71, s.fixed.clip_distance_count),
         _ => nothing(),
     }
 }

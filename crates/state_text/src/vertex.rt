@@ -4,7 +4,7 @@ ghost use mathlib.Core.Bool.{true};
 ghost use lib.Dec.{ltb};
 ghost use lib.ListN.{getD};
 ghost use Rattle.records.specs.Start.{startSlot, startAttribute};
-ghost use Rattle.state_text.specs.State.{slotThere, slotFields, attributeFields, maskFields};
+ghost use Rattle.state_text.specs.State.{slotThere, slotFields, attributeFields, maskFields, instanceThere, instanceFields};
 ghost use Rattle.state_text.specs.Told.{toldOf};
 use crate::rows::Told;
 use crate::rows::or_dash;
@@ -13,7 +13,9 @@ use records::state::VertexSlot;
 use records::state::VertexState;
 use text::field::Field;
 use text::field::Word;
+use text::field::four;
 use text::field::six;
+use text::field::two;
 use text::shown::is_integer;
 
 fn slot_at(v: VertexState, i: u32) -> VertexSlot
@@ -89,15 +91,35 @@ pub fn attribute(v: VertexState, i: u32) -> Told
 pub fn masks(v: VertexState) -> Told
     ensures { λ r. ⌜ r ≡ toldOf true 65 (maskFields v) ⌝ }
 {
-    let shown = six(
+    let shown = four(
         65,
-        5,
+        3,
         Field::Number(v.instance_vbuf_mask),
         Field::Text(Word::DirtyMask),
         Field::Number(v.dirty_vbuf_mask),
-        Field::Text(Word::ActiveFirstInstance),
-        Field::Number(v.active_first_instance),
         Field::Absent,
     );
     Told { there: true, shown }
+}
+
+fn instance_at(v: VertexState, i: u32) -> u32
+    ensures { λ r. ⌜ r ≡ getD (v .instances) i 0 ⌝ }
+{
+    if i < 16 {
+        let at = i as usize;
+        v.instances[at]
+    } else {
+        0
+    }
+}
+
+pub fn instance(v: VertexState, i: u32) -> Told
+    ensures { λ r. ⌜ r ≡ toldOf (instanceThere v i) 66 (instanceFields v i) ⌝ }
+{
+    let number = instance_at(v, i);
+    let shown = two(66, 2, Field::Number(i), Field::Number(number));
+    Told {
+        there: number != 0,
+        shown,
+    }
 }

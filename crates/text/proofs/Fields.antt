@@ -12,7 +12,7 @@ use Rattle.records.specs.declared.command.OptionU32.the-variants.{None, Some}
 use Rattle.text.specs.declared.field.Field.{Field}
 use Rattle.text.specs.declared.field.Field.the-variants.{Number, Long, Signed, Flag, Float, Bits, Optional, Buffer, Absent, Text}
 use Rattle.text.specs.declared.field.Word.{Word}
-use Rattle.text.specs.declared.field.Word.the-variants.{DirtyMask, ActiveFirstInstance, State}
+use Rattle.text.specs.declared.field.Word.the-variants.{DirtyMask, State}
 use Rattle.text.specs.declared.field.Shown.{Shown}
 use Rattle.text.specs.Digits.{signed}
 use Rattle.text.specs.Field.{optional, presentOf, wordText, fieldText, spaced}
@@ -31,7 +31,6 @@ optional-short (Some n) = omega (arith, decimal-long n)
 
 pub word-short : (w : Word) → length (wordText w) ≤ 21
 word-short DirtyMask = omega arith
-word-short ActiveFirstInstance = omega arith
 word-short State = omega arith
 
 -- a field has at most 21 bytes

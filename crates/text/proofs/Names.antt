@@ -13,7 +13,7 @@ use Rattle.text.specs.Shown.{names, ends, nameAt}
 
 -- from a to b, the beginning of a name and that of the next
 abbrev pub near : ℕ → ℕ → Bool
-near a b = leb a b && (leb b (a + 24) && leb b 1007)
+near a b = leb a b && (leb b (a + 24) && leb b 994)
 
 abbrev pub nears : List ℕ → Bool
 nears [] = true
@@ -23,13 +23,13 @@ nears (a ∷ b ∷ l) = near a b && nears (b ∷ l)
 pub record Near (a b : ℕ) : Type 0 where
   pub up : a ≤ b
   pub close : b ≤ a + 24
-  pub inside : b ≤ 1007
+  pub inside : b ≤ 994
 
 near-is : (a b : ℕ) → T (near a b) → Near a b
 near-is a b t =
-    let x = and-yes (leb a b) (leb b (a + 24) && leb b 1007) t in
-    let y = and-yes (leb b (a + 24)) (leb b 1007) (x .1) in
-    record { up = leb→le a b (x .0); close = leb→le b (a + 24) (y .0); inside = leb→le b 1007 (y .1) }
+    let x = and-yes (leb a b) (leb b (a + 24) && leb b 994) t in
+    let y = and-yes (leb b (a + 24)) (leb b 994) (x .1) in
+    record { up = leb→le a b (x .0); close = leb→le b (a + 24) (y .0); inside = leb→le b 994 (y .1) }
 
 nears-at : (l : List ℕ) → T (nears l) → (k : ℕ) → suc k < length l → Near (getD l k 0) (getD l (suc k) 0)
 nears-at [] t k h = absurd (not-suc-le-zero h)

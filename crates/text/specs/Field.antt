@@ -9,7 +9,7 @@ use Rattle.records.specs.declared.command.OptionU32.the-variants.{None, Some}
 use Rattle.text.specs.declared.field.Field.{Field}
 use Rattle.text.specs.declared.field.Field.the-variants.{Number, Long, Signed, Flag, Float, Bits, Optional, Buffer, Absent, Text}
 use Rattle.text.specs.declared.field.Word.{Word}
-use Rattle.text.specs.declared.field.Word.the-variants.{DirtyMask, ActiveFirstInstance, State}
+use Rattle.text.specs.declared.field.Word.the-variants.{DirtyMask, State}
 use Rattle.text.specs.Digits.{ascii, decimal, hex, signed, dash}
 
 -- a flag: 0 or 1
@@ -29,7 +29,6 @@ presentOf n = cond (eqb n 0) None (Some n)
 -- a word between the fields
 abbrev pub wordText : Word → List ℕ
 wordText DirtyMask = ascii "dirty_mask"
-wordText ActiveFirstInstance = ascii "active_first_instance"
 wordText State = ascii "state"
 
 -- u, u of 64 bits, i, b, x, X, o, o of a buffer, none, a word

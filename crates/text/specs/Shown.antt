@@ -13,7 +13,7 @@ use Rattle.text.specs.declared.field.Shown.{Shown}
 use Rattle.text.specs.Digits.{ascii}
 use Rattle.text.specs.Command.{fieldsOf}
 
--- the names in the commands' order, those of the state's rows, and three words, each after a blank
+-- the names in the commands' order, those of the state's rows, and two words, each after a blank
 abbrev pub names : List ℕ
 names =
     ascii " Draw DrawIndexed DrawIndirect DrawIndexedIndirect Dispatch DispatchIndirect ClearBuffer CopyBufferToBuffer"
@@ -24,8 +24,8 @@ names =
     ++ ascii " UnsetVertexAttribute SetVertexBuffer SetProgram SetPrimitive SetBlendConstant SetColorTarget BindBuffer"
     ++ ascii " BindSampler BindTexture BindImage PushDebugGroup PopDebugGroup SetImmediates SetClipDistances"
     ++ ascii " topology primitive index slot attribute target stencil front stencil back bias alpha_to_coverage sampler"
-    ++ ascii " texture_slot render_size resolve invalidate has_pass_label instance_mask first_instance_location descriptor"
-    ++ ascii " word end_of_pass_timestamp clip_distance_count dirty_mask active_first_instance state"
+    ++ ascii " texture_slot render_size resolve invalidate has_pass_label instance_mask instance first_instance_location"
+    ++ ascii " descriptor word end_of_pass_timestamp clip_distance_count dirty_mask state"
 
 -- where each of them begins, and the end of the last
 abbrev pub ends : List ℕ
@@ -34,7 +34,7 @@ ends =
     ∷ 246 ∷ 266 ∷ 278 ∷ 290 ∷ 302 ∷ 313 ∷ 326 ∷ 347 ∷ 361 ∷ 376 ∷ 388 ∷ 399 ∷ 414 ∷ 428 ∷ 437 ∷ 450 ∷ 472
     ∷ 491 ∷ 510 ∷ 531 ∷ 547 ∷ 558 ∷ 571 ∷ 588 ∷ 603 ∷ 614 ∷ 626 ∷ 638 ∷ 648 ∷ 663 ∷ 677 ∷ 691 ∷ 708
     ∷ 717 ∷ 727 ∷ 733 ∷ 738 ∷ 748 ∷ 755 ∷ 769 ∷ 782 ∷ 787 ∷ 805 ∷ 813 ∷ 826 ∷ 838 ∷ 846
-    ∷ 857 ∷ 872 ∷ 886 ∷ 910 ∷ 921 ∷ 926 ∷ 948 ∷ 968 ∷ 979 ∷ 1001 ∷ 1007 ∷ []
+    ∷ 857 ∷ 872 ∷ 886 ∷ 895 ∷ 919 ∷ 930 ∷ 935 ∷ 957 ∷ 977 ∷ 988 ∷ 994 ∷ []
 
 -- a blank and the name at this place
 abbrev pub nameAt : ℕ → List ℕ

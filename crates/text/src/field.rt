@@ -30,7 +30,6 @@ pub enum Field {
 // A word that is printed as it stands.
 pub enum Word {
     DirtyMask,
-    ActiveFirstInstance,
     State,
 }
 

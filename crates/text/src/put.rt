@@ -15,9 +15,9 @@ use crate::field::Shown;
 use crate::field::Word;
 use records::command::OptionU32;
 
-// The names in the order of the commands, those of the state's rows, and three words, each after a
+// The names in the order of the commands, those of the state's rows, and two words, each after a
 // blank.
-const NAMES: [u8; 1007] =
+const NAMES: [u8; 994] =
     *b" Draw DrawIndexed DrawIndirect DrawIndexedIndirect Dispatch DispatchIndirect ClearBuffer \
     CopyBufferToBuffer SetIndexBuffer BeginQuery EndQuery TimestampQuery CopyQueryResults \
     ResetFramebuffer BindAttachment ResolveAttachment InvalidateAttachments SetDrawColorBuffers \
@@ -28,8 +28,8 @@ const NAMES: [u8; 1007] =
     SetColorTarget BindBuffer BindSampler BindTexture BindImage PushDebugGroup PopDebugGroup \
     SetImmediates SetClipDistances topology primitive index slot attribute target stencil front \
     stencil back bias alpha_to_coverage sampler texture_slot render_size resolve invalidate \
-    has_pass_label instance_mask first_instance_location descriptor word end_of_pass_timestamp \
-    clip_distance_count dirty_mask active_first_instance state";
+    has_pass_label instance_mask instance first_instance_location descriptor word \
+    end_of_pass_timestamp clip_distance_count dirty_mask state";
 
 // Where each of them begins, and the end of the last.
 const ENDS: [usize; 75] = [
@@ -100,14 +100,14 @@ const ENDS: [usize; 75] = [
     857,
     872,
     886,
-    910,
-    921,
-    926,
-    948,
-    968,
-    979,
-    1001,
-    1007,
+    895,
+    919,
+    930,
+    935,
+    957,
+    977,
+    988,
+    994,
 ];
 
 fn name_end(place: usize) -> usize
@@ -118,7 +118,7 @@ fn name_end(place: usize) -> usize
 }
 
 fn name_byte(i: usize) -> u8
-    requires { ⌜ i < 1007 ⌝ }
+    requires { ⌜ i < 994 ⌝ }
     ensures { λ r. ⌜ r ≡ getD names i 0 ⌝ }
 {
     NAMES[i]
@@ -256,7 +256,7 @@ fn put_fields(line: &mut [u8], at: usize, shown: Shown) -> usize
 
 // The bytes of the names from `from` on, up to `to`.
 fn put_part(line: &mut [u8], at: usize, from: usize, to: usize) -> usize
-    requires { ⌜ (at ≤ length (now line)) × (from ≤ to) × (to ≤ 1007) × (to ≤ from + at) ⌝ }
+    requires { ⌜ (at ≤ length (now line)) × (from ≤ to) × (to ≤ 994) × (to ≤ from + at) ⌝ }
     ensures { λ r. ⌜ Put (slice from to names) (now (line .entry)) at (now (line .exit)) r ⌝ }
 {
     let mut k = to;
@@ -273,9 +273,8 @@ pub fn put_word(line: &mut [u8], at: usize, word: Word) -> usize
     ensures { λ r. ⌜ Put (wordText word) (now (line .entry)) at (now (line .exit)) r ⌝ }
 {
     match word {
-        Word::DirtyMask => put_part(line, at, 969, 979),
-        Word::ActiveFirstInstance => put_part(line, at, 980, 1001),
-        Word::State => put_part(line, at, 1002, 1007),
+        Word::DirtyMask => put_part(line, at, 978, 988),
+        Word::State => put_part(line, at, 989, 994),
     }
 }
 

@@ -1,7 +1,7 @@
 #!/bin/bash
 # Runs every case, compares with its '#=' lines, keeps the whole output in cases/*.out. A case is run on both builds, or on the one that its
 # '#build' line names; the kept output is the requested one where there are two.
-# check_cases.sh [--published]   --published: only on the published build, and nothing is kept
+# check_cases.sh [--published | --requested]   only on that build, and nothing is kept
 cd "$(dirname "$0")/.." || exit 2
 T=$(mktemp -d); n=0; bad=0; runs=0; only=${1:-}
 target=${CARGO_TARGET_DIR:-target}
@@ -9,7 +9,7 @@ program() { case $1 in requested) echo "${ORACLE:-$target/debug/oracle}";; publi
 fail() { echo "FAIL $f ($b build) $1"; bad=$((bad+1)); }
 for f in cases/*.txt; do
   builds=$(sed -n 's/^#build //p' "$f"); builds=${builds:-published requested}
-  [ -z "$only" ] || { case " $builds " in *" published "*) builds=published;; *) continue;; esac; }
+  [ -z "$only" ] || { case " $builds " in *" ${only#--} "*) builds=${only#--};; *) continue;; esac; }
   n=$((n+1))
   for b in $builds; do
     O=$(program "$b"); out="$T/out"; runs=$((runs+1))

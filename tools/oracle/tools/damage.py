@@ -1,7 +1,8 @@
 #!/usr/bin/env python3
-"""damage.py [FROM TO]: that requests.py notices. Random sessions by seed (0 to 400 if not given) on both builds of the Rust; of each
-session that differs by a request the outputs are damaged in one way after another, and requests.hold must refuse every damaged pair.
-Exit 1 where one is let through, or a way was never tried. It needs both builds (build.sh)."""
+"""damage.py [FROM TO]: that requests.py notices. Random sessions by seed (0 to 1200 if not given) on both builds of the Rust, as compare.sh makes
+them and with --even, and a few cases. The outputs of each kind of session are damaged in one way after another, and requests.hold must refuse every
+damaged pair. It must refuse, too, every pair that differs by request 5 if the session is taken for even. Exit 1 where one is let through, or a way
+was never tried. It needs both builds (build.sh)."""
 import os
 import re
 import subprocess
@@ -12,14 +13,21 @@ import requests
 
 HERE = os.path.dirname(os.path.abspath(__file__))
 TARGET = os.environ.get("CARGO_TARGET_DIR", os.path.join(os.path.dirname(HERE), "target"))
+MOST = 40      # sessions of a kind that are damaged in one way
+CASES = ("S01_A0_B5_A0", "S03_second_pass_5_A5", "S09_too_far", "S10_no_room")      # with NAME_published, the same calls
+BUFFER, OFFSET, STRIDE = ({"SetVertexBuffer": a, "SetVertexAttribute": b} for a, b in ((3, 2), (4, 6), (6, 4)))      # the words of a command
 CLEAR = re.compile(r"^(\d+ ClearColor[FUI] )(\d+)( .*)$", re.M)
-COUNT = re.compile(r"^(\d+ SetDrawColorBuffers )(\d+)$", re.M)
+COUNT = re.compile(r"^(\d+ SetDrawColorBuffers )(\d+)()$", re.M)
 SIZE = re.compile(r"^(state render_size )(\d+)( .*)$", re.M)
+DIRTY = re.compile(r"^(state instance_mask \d+ dirty_mask )(\d+)(.*)$", re.M)
+STEPPED = re.compile(r"^(state instance_mask )(\d+)(.*)$", re.M)
+ONE = re.compile(r"^(state .* active_first_instance )(\d+)()$", re.M)
+OWN = re.compile(r"^(state instance \d+ )(\d+)()$", re.M)
 
 
 def more(pattern):
     """The number that the pattern's second group finds first, and one more."""
-    return lambda text: pattern.sub(lambda m: m.group(1) + str(int(m.group(2)) + 1) + (m.group(3) if m.re.groups > 2 else ""), text, count=1)
+    return lambda text: pattern.sub(lambda m: m.group(1) + str(int(m.group(2)) + 1) + m.group(3), text, count=1)
 
 
 def recoloured(text):
@@ -30,25 +38,150 @@ def without(text):
     return CLEAR.sub("", text, count=1).replace("\n\n", "\n", 1)
 
 
-# each way: the outputs of the published and of the requested build, damaged
-WAYS = {
-    "number, requested": lambda p, r: (p, more(CLEAR)(r)),
-    "number, published": lambda p, r: (more(CLEAR)(p), r),
-    "number, both": lambda p, r: (more(CLEAR)(p), more(CLEAR)(r)),
-    "another colour": lambda p, r: (p, recoloured(r)),
-    "a clear left out, both": lambda p, r: (without(p), without(r)),
-    "draw buffer count": lambda p, r: (p, more(COUNT)(r)),
-    "state": lambda p, r: (p, more(SIZE)(r)),
-    "builds swapped": lambda p, r: (r, p),
-    "published twice": lambda p, r: (p, p),
-    "requested twice": lambda p, r: (r, r),
+def renumbered(lines):
+    """The commands count from 0 in each list, so that only what is missing or too much can be noticed."""
+    done, n = [], 0
+    for line in lines:
+        n = 0 if line == "---" else n
+        if line[0].isdigit():
+            line, n = f"{n} {line.split(' ', 1)[1]}", n + 1
+        done.append(line)
+    return "\n".join(done) + "\n"
+
+
+def sent(lines):
+    """The lines of what draws send: vertex buffers, or without layout attributes with a buffer."""
+    return [i for i, l in enumerate(lines) if re.match(r"\d+ (SetVertexBuffer|SetVertexAttribute \d)", l)]
+
+
+def on_one(change):
+    """The change of one line that a draw sent, some line of them."""
+    def damaged(text):
+        lines = text.splitlines()
+        at = sent(lines)
+        if not at:
+            return text
+        i = at[len(text) % len(at)]
+        return renumbered(lines[:i] + change(lines[i]) + lines[i + 1:])
+    return damaged
+
+
+def field(places):
+    """One field of a command and one more."""
+    def change(line):
+        word = line.split(" ")
+        at = places[word[1]]
+        word[at] = str(int(word[at]) + 1)
+        return [" ".join(word)]
+    return on_one(change)
+
+
+def needless(text):
+    """What a draw sent once more, before a later draw of its pass."""
+    lines = text.splitlines()
+    for i in reversed(sent(lines)):
+        for k in range(i + 1, len(lines)):
+            if not lines[k][0].isdigit() or " ResetFramebuffer " in lines[k]:
+                break
+            if lines[k].split(" ")[1].startswith("Draw") and not lines[k - 1].split(" ")[1].startswith(("Draw", "SetVertex")):
+                return renumbered(lines[:k] + [lines[i]] + lines[k:])
+    return text
+
+
+def lists(text):
+    return text[:text.index("state topology")]
+
+
+def rest(text):
+    return text[text.index("state topology"):]
+
+
+def first_draw(answer):
+    """The first accepted draw call answered otherwise, in the flat form and in the answers."""
+    def damaged(flat, text):
+        lines = flat.splitlines()
+        at = next((i for i, l in enumerate(lines) if i and l.startswith("0 25 ")), None)
+        if at is None:
+            return flat, text
+        lines[at] = answer + lines[at][1:]
+        return "\n".join(lines) + "\n", text.replace(f"answer {at - 1} 0\n", f"answer {at - 1} {answer}\n")
+    return damaged
+
+
+def parted(answer):
+    """The first call that the builds answer differently, refused with that number by the build that refuses it."""
+    def damaged(p, r):
+        flats = [s[0].splitlines() for s in (p, r)]
+        at = next((i for i, (x, y) in enumerate(zip(*flats)) if x[0] != y[0]), None)
+        if at is None or at == 0:
+            return p, r
+        k = 0 if flats[0][at][0] != "0" else 1
+        old, flats[k][at] = flats[k][at][0], answer + flats[k][at][1:]
+        pair = [p, r]
+        pair[k] = "\n".join(flats[k]) + "\n", pair[k][1].replace(f"answer {at - 1} {old}\n", f"answer {at - 1} {answer}\n")
+        return tuple(pair)
+    return damaged
+
+
+def texts(way):
+    """A way that damages the outputs and leaves the flat forms."""
+    def damaged(p, r):
+        a, b = way(p[1], r[1])
+        return (p[0], a), (r[0], b)
+    return damaged
+
+
+def each(name, change):
+    """The same damage in the requested output, in the published one, and in both."""
+    return {f"{name}, requested": texts(lambda p, r: (p, change(r))), f"{name}, published": texts(lambda p, r: (change(p), r)),
+            f"{name}, both": texts(lambda p, r: (change(p), change(r)))}
+
+
+# each way: the sessions of the published and of the requested build (flat form, output), damaged
+SWAPS = {
+    "lists swapped": texts(lambda p, r: (lists(r) + rest(p), lists(p) + rest(r))),
+    "published lists twice": texts(lambda p, r: (p, lists(p) + rest(r))),
+    "requested lists twice": texts(lambda p, r: (lists(r) + rest(p), r)),
+}
+CLEARS = {
+    **each("number of a clear", more(CLEAR)),
+    "another colour": texts(lambda p, r: (p, recoloured(r))),
+    "a clear left out, both": texts(lambda p, r: (without(p), without(r))),
+    "draw buffer count": texts(lambda p, r: (p, more(COUNT)(r))),
+    "state": texts(lambda p, r: (p, more(SIZE)(r))),
+}
+SLOTS = {
+    **each("another buffer", field(BUFFER)), **each("another offset", field(OFFSET)), **each("another stride", field(STRIDE)),
+    **each("a binding left out", on_one(lambda line: [])), **each("a binding twice", on_one(lambda line: [line, line])), **each("a needless binding", needless),
+    **each("instance mask", more(STEPPED)), **each("dirty mask", more(DIRTY)),
+    "the one number": texts(lambda p, r: (more(ONE)(p), r)),
+    "a draw refused with 7, requested": lambda p, r: (p, first_draw("7")(*r)),
+    "a draw refused with 7, published": lambda p, r: (first_draw("7")(*p), r),
+    "a draw refused with 6, both": lambda p, r: (first_draw("6")(*p), first_draw("6")(*r)),
+}
+NUMBERS = {"a slot's number": texts(lambda p, r: (p, more(OWN)(r))), "the numbers left out": texts(lambda p, r: (p, re.sub(r"(?m)^state instance \d.*\n", "", r)))}
+ANSWERS = {f"answer {n} in place of the refusal": parted(n) for n in "13567"}
+
+# kinds of sessions: which they are (what hold says, layout, full instancing, answers equal), and the ways
+KINDS = {
+    "different by request 1": (lambda h, layout, full, equal: "01" in h.by, {**CLEARS, **SWAPS}),
+    "even, a slot bound by its number alone": (lambda h, layout, full, equal: h.moved, {**SLOTS, **NUMBERS}),
+    "without layout": (lambda h, layout, full, equal: not layout and not full, {**SLOTS, **NUMBERS}),
+    "with full instancing": (lambda h, layout, full, equal: full, SLOTS),
+    "not even or without a draw, and equal": (lambda h, layout, full, equal: layout and not full and not h.even and "05" not in h.by, {**SLOTS, **NUMBERS}),
+    "different by request 5": (lambda h, layout, full, equal: "05" in h.by and equal, {**SLOTS, **NUMBERS, **SWAPS}),
+    "answered differently": (lambda h, layout, full, equal: not equal, ANSWERS),
 }
 
 
-def batch(build, first, end, folder):
+EVEN = ("different by request 5, taken for even", "")
+
+
+def batch(build, first, end, folder, options):
     files = [os.path.join(folder, name) for name in ("flat", "out", "index")]
-    subprocess.run([build, "batch", first, end, "--flat", files[0], "--out", files[1], "--index", files[2]], check=True)
-    return [open(f).read() for f in files[:2]]
+    subprocess.run([build, "batch", first, end, *options, "--flat", files[0], "--out", files[1], "--index", files[2]], check=True)
+    flat, out = (open(f).read() for f in files[:2])
+    return zip(sessions(flat), out.split("===\n"))
 
 
 def sessions(flat):
@@ -59,33 +192,77 @@ def sessions(flat):
         at = end
 
 
-def let_through(flat, pair):
+def cases():
+    """The cases on both builds: flat form, output."""
+    for name in CASES:
+        pair = []
+        for build, ending in (("published/debug/oracle", "_published.txt"), ("debug/oracle", ".txt")):
+            file = os.path.join(os.path.dirname(HERE), "cases", name + ending)
+            run = lambda *options: subprocess.run([os.path.join(TARGET, build), *options], check=True, capture_output=True, text=True).stdout
+            pair.append((run("flat", file), run("run", file, "--all", "--bytes", "--queries", "--state")))
+        yield pair
+
+
+def let_through(pair):
     try:
-        requests.hold(flat, *pair)
+        requests.hold(*pair)
         return True
     except requests.Unequal:
         return False
 
 
-def main():
-    first, end = sys.argv[1:3] if len(sys.argv) > 2 else ("0", "400")
-    with tempfile.TemporaryDirectory() as folder:
-        flat, requested = batch(os.path.join(TARGET, "debug/oracle"), first, end, folder)
-        _, published = batch(os.path.join(TARGET, "published/debug/oracle"), first, end, folder)
-    tried, bad = {name: 0 for name in WAYS}, 0
-    for f, p, r in zip(sessions(flat), published.split("===\n"), requested.split("===\n")):
-        if not requests.hold(f, p, r)[1]:
+def taken_for_even(pair):
+    true, requests.uneven = requests.uneven, lambda session: {}
+    try:
+        return let_through(pair)
+    finally:
+        requests.uneven = true
+
+
+def answers(flat):
+    return [l[0] for l in flat.splitlines()[1:]]
+
+
+def damage(p, r, tried):
+    """All ways of the kinds that the session is of; how many were let through."""
+    held, head, bad = requests.hold(p, r), p[0].split(" ", 4), 0
+    if "05" in held.by:
+        tried[EVEN] += 1
+        if taken_for_even((p, r)):
+            bad += 1
+            print("let through: different by request 5, taken for even")
+    for kind, (fits, ways) in KINDS.items():
+        if not fits(held, head[0] == "1", head[2] == "1", answers(p[0]) == answers(r[0])):
             continue
-        for name, way in WAYS.items():
+        for name, way in ways.items():
             pair = way(p, r)
-            if pair == (p, r):
+            if tried[kind, name] >= MOST or pair == (p, r):
                 continue
-            tried[name] += 1
-            if let_through(f, pair):
+            tried[kind, name] += 1
+            if let_through(pair):
                 bad += 1
-                print(f"let through: {name}")
-    for name, n in tried.items():
-        print(f"{name}: {n} refused" if n else f"{name}: never tried")
+                print(f"let through: {kind}: {name}")
+    return bad
+
+
+def main():
+    first, end = sys.argv[1:3] if len(sys.argv) > 2 else ("0", "1200")
+    tried, bad = {(kind, name): 0 for kind, (_, ways) in KINDS.items() for name in ways} | {EVEN: 0}, 0
+    for p, r in cases():
+        bad += damage(p, r, tried)
+    for options in ([], ["--even"]):
+        with tempfile.TemporaryDirectory() as folder:
+            requested = list(batch(os.path.join(TARGET, "debug/oracle"), first, end, folder, options))
+            published = list(batch(os.path.join(TARGET, "published/debug/oracle"), first, end, folder, options))
+        for p, r in zip(published, requested):
+            bad += damage(p, r, tried)
+    for kind in dict.fromkeys(kind for kind, _ in tried):
+        counts = [n for (k, _), n in tried.items() if k == kind]
+        print(f"{kind}: {len(counts)} ways, each tried {min(counts)} to {max(counts)} times")
+    for (kind, name), n in tried.items():
+        if not n:
+            print(f"never tried: {kind}: {name}")
+    print(f"{sum(tried.values())} damaged pairs, {bad} let through")
     sys.exit(bool(bad) or not all(tried.values()))
 
 

@@ -90,7 +90,7 @@ def body():
         ("stencil", " front" + rx("uuuuuuu").pattern, 1, 1), ("stencil", " back" + rx("uuuuuuu").pattern, 1, 1), ("bias", rx("iXX").pattern, 1, 1),
         ("alpha_to_coverage", rx("b").pattern, 1, 1), ("sampler", rx("uu").pattern, 0, 16), ("texture_slot", rx("uuo").pattern, 0, 16),
         ("render_size", rx("uuu").pattern, 1, 1), ("resolve", rx("u").pattern, 0, 8), ("invalidate", rx("u").pattern, 0, 10), ("has_pass_label", rx("b").pattern, 1, 1),
-        ("instance_mask", r" \d+ dirty_mask \d+ active_first_instance \d+", 1, 1), ("first_instance_location", rx("o").pattern, 1, 1),
+        ("instance_mask", r" \d+ dirty_mask \d+", 1, 1), ("instance", r" \d+ [1-9]\d*", 0, 16), ("first_instance_location", rx("o").pattern, 1, 1),
         ("descriptor", rx("uuuu").pattern, 0, 192), ("word", rx("uu").pattern, 0, 64), ("end_of_pass_timestamp", rx("o").pattern, 1, 1), ("clip_distance_count", rx("u").pattern, 1, 1))]
 STATE = body()
 

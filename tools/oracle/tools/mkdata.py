@@ -9,8 +9,8 @@ TARGET = os.environ.get("CARGO_TARGET_DIR", os.path.join(ROOT, "target"))
 O, PUBLISHED = (os.path.join(TARGET, f) for f in ("debug/oracle", "published/debug/oracle"))
 DATA = os.path.join(ROOT, "data")
 CALLS = 60          # calls of a random session
-# the first two are large; data/scripts/full_*.txt have the same edges in less. The third is P12_empty_place_0 with the published Rust's list
-SKIP = {"T7_draw_at_4096", "B30", "P12_published"}
+# large; data/scripts/full_*.txt have the same edges in less
+SKIP = {"T7_draw_at_4096", "B30"}
 OBJECTS = {"caps", "room", "buf", "qset", "view", "pipe", "cpipe", "group", "layout", "bg"}
 CALL = """begin_encoding end_encoding begin_render_pass end_render_pass begin_compute_pass end_compute_pass transition_buffers
 transition_textures clear_buffer copy_buffer_to_buffer copy_query_results begin_query end_query write_timestamp reset_queries set_bind_group
@@ -26,7 +26,7 @@ REFUSED = {1: CALL, 2: "begin_render_pass set_bind_group set_render_pipeline set
     5: "begin_render_pass set_bind_group set_render_pipeline".split(),
     6: "set_bind_group draw draw_indexed draw_indirect draw_indexed_indirect".split(), 7: R7}
 STATE = """topology primitive index slot attribute target stencil bias alpha_to_coverage sampler texture_slot render_size resolve invalidate
-has_pass_label instance_mask first_instance_location descriptor word end_of_pass_timestamp clip_distance_count""".split()
+has_pass_label instance_mask instance first_instance_location descriptor word end_of_pass_timestamp clip_distance_count""".split()
 
 
 def oracle(*a, text=None, build=O):
@@ -49,10 +49,10 @@ def cut(lines, n):
     """the script up to its n-th call"""
     at = [i for i, l in enumerate(lines) if is_call(l)]
     return lines[:at[n]] if n < len(at) else lines
-def remark(lines):
+def remark(lines, build=O):
     """the expected number before each call, as the model has it"""
     lines = [re.sub(r"^\?\d ", "", l) for l in lines]
-    ans = [l.split(" ", 1)[0] for l in oracle("flat", "-", text="\n".join(lines) + "\n").splitlines()[1:]]
+    ans = [l.split(" ", 1)[0] for l in oracle("flat", "-", text="\n".join(lines) + "\n", build=build).splitlines()[1:]]
     it = iter(ans)
     return [(lambda a: l if a == "0" else f"?{a} {l}")(next(it)) if is_call(l) else l for l in lines]
 def refused(lines): return sum(1 for l in lines if l.startswith("?"))
@@ -92,7 +92,7 @@ def sessions():
     for d in ("data/scripts", "cases", "findings"):
         for f in sorted(glob.glob(os.path.join(ROOT, d, "*.txt"))):
             n = os.path.splitext(os.path.basename(f))[0]
-            if n in SKIP: continue
+            if n in SKIP or n.endswith("_published"): continue      # the calls of another case, with the published Rust's list
             lines = open(f).read().splitlines()
             # three findings leave unmarked what the model refuses
             yield f"{d}/{n}", remark(lines) if n in ("A10", "A19", "B28") else lines
@@ -131,6 +131,25 @@ def sessions():
         yield f"refused/seed{s}/short", remark(with_room(l, r))
         (s, l), (t, m) = shortr(c), shortr(c)
         yield f"refused/seed{s}+{t}", two(l, m)
+    yield from slot_sessions(N, "even", 50001, 5)
+    yield from slot_sessions(N, "mixed", 70001, 2)
+
+def slot_sessions(N, kind, first, each):
+    """of each board with layout that emulates instancing as many accepted ones, whole and cut, and as many with refused calls; the last has
+    room for one command less than it needs. main checks that even ones are even"""
+    accepted = seeds(lambda l: True, N + ["--" + kind], first)
+    wide = seeds(lambda l: refused(l) > 2 and not has_room(l), N + ["--" + kind, "--refused"], first + 10000)
+    for c in ("1000", "1001", "1100", "1101"):
+        for k in range(each):
+            s, l = accepted(c)
+            if k % 2: l, n = inside(l, s); yield f"accepted/{kind}/seed{s}/cut{n}", l
+            else: yield f"accepted/{kind}/seed{s}", l
+        for k in range(each - 1):
+            s, l = wide(c)
+            if k % 2: l, n = inside(l, s); l = remark(l); yield f"refused/{kind}/seed{s}/cut{n}", l
+            else: yield f"refused/{kind}/seed{s}", l
+        s, l = accepted(c); r = needs(l); r[0] -= 1
+        yield f"refused/{kind}/seed{s}/short", remark(with_room(l, r))
 
 def main():
     keep = sys.argv[sys.argv.index("--scripts") + 1] if "--scripts" in sys.argv else None
@@ -139,15 +158,17 @@ def main():
     tally = requests.Tally()
     for i, (name, lines) in enumerate(sessions()):
         text = "\n".join(lines) + "\n"
-        if keep: open(os.path.join(keep, f"{i:03d}.txt"), "w").write(f"# {name}\n{text}")
         f = oracle("flat", "-", text=text)
         run = ["run", "-", "--all", "--bytes", "--queries", "--state"]
-        o, p = oracle(*run, text=text), oracle(*run, text=text, build=PUBLISHED)
-        if keep: open(os.path.join(keep, f"{i:03d}.published"), "w").write(p)
-        if f != oracle("flat", "-", text=text, build=PUBLISHED): sys.exit(f"{name}: the two builds have other answers")
-        try: passes, by = requests.hold(f, p, o)
+        g = oracle("flat", "-", text=text, build=PUBLISHED)
+        theirs = text if f == g else "\n".join(remark(lines, PUBLISHED)) + "\n"
+        o, p = oracle(*run, text=text), oracle(*run, text=theirs, build=PUBLISHED)
+        for build, script, printed in (("requested", text, o), ("published", theirs, p)) if keep else ():
+            for ending, content in (("txt", f"# {name}\n{script}"), ("out", printed)): open(os.path.join(keep, f"{i:03d}.{build}.{ending}"), "w").write(content)
+        try: held = requests.hold((g, p), (f, o))
         except requests.Unequal as e: sys.exit(f"{name}: the two builds differ otherwise than a request allows: {e}")
-        tally.add(passes, by)
+        if "/even/" in name and not held.even: sys.exit(f"{name}: not even")
+        tally.add(held)
         a = [l.split(" ", 1)[0] for l in f.splitlines()[1:]]
         r = sum(x != "0" for x in a)
         if name.startswith("accepted") and r or name.startswith("refused") and not r: sys.exit(f"{name}: {r} refused")
@@ -157,7 +178,7 @@ def main():
         out.append(o + "".join(f"answer {k} {x}\n" for k, x in enumerate(a)) + "===\n")
         h = f.split("\n", 1)[0].split()
         if any(int(x) > y for x, y in zip(h[4:7], (4096, 65536, 1024))): sys.exit(f"{name}: more room than the limits")
-        index.append(f"{i} {name} {''.join(h[:4])} {'/'.join(h[4:7])} {h[7]} {r} {1 + o.count('---' + chr(10))} {sum(l[0].isdigit() for l in o.splitlines())} {requests.mark(by)}")
+        index.append(f"{i} {name} {''.join(h[:4])} {'/'.join(h[4:7])} {h[7]} {r} {1 + o.count('---' + chr(10))} {sum(l[0].isdigit() for l in o.splitlines())} {requests.mark(held.by)}")
     for n, t in (("sessions.flat", "".join(flat)), ("sessions.out", "".join(out)), ("sessions.index", "\n".join(index) + "\n")):
         open(os.path.join(DATA, n), "w").write(t)
     sys.exit(count(tally))
@@ -189,6 +210,8 @@ def count(tally):
         return n
     t += [f"sessions {sess}, of them {acc} with accepted calls only and {sess - acc} with refused ones", f"calls {sum(map(sum, calls.values()))}, of them {sum(sum(v[1:]) for v in calls.values())} refused", f"lists {lists}", f"commands {sum(command.values())}", *tally.text().split("\n"), ""]
     need("sessions", sess, 200); need("accepted sessions", acc, 100); need("refused sessions", sess - acc, 100)
+    need("even sessions", tally.even[0], 40); need("even sessions that bind a slot by its number alone", tally.even[1], 20)
+    for k, v in tally.by.items(): need(f"sessions different by request {k}", v[0], 10)
     t += ["flags (layout barriers instancing msrtt): sessions accepted, with refused calls"]
     t += [f"  {k} {v[0]} {v[1]}" for k, v in flags.items()]
     for k, v in flags.items(): need("flags " + k, v[0], 5); need("flags " + k + " refused", v[1], 5)

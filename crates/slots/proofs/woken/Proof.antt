@@ -1,17 +1,13 @@
 -- `slots::woken` meets its contract. Assumes nothing.
-use borrow.Author.Tests.{eq-eqb, ne-eqb}
+use borrow.Author.Needs.{needs}
 use Rattle.slots.proofs.woken.Statement.{statement}
 use Rattle.slots.proofs.woken.Tie as tie
 
-returns : tie.Need-returns
-returns c =
-    let a = c .before .before .args in
-    rw (eq-eqb (a .w) (a .v .«active_first_instance») (c .if1 .taken))
+moved-requires : tie.Need-moved-requires
+moved-requires c κs = search needs
 
-returns-2 : tie.Need-returns-2
-returns-2 c =
-    let a = c .before .before .before .args in
-    rw (ne-eqb (a .w) (a .v .«active_first_instance») (c .before .if1 .left))
+returns : tie.Need-returns
+returns c = rw (c .before .moved .ensures)
 
 pub woken-spec : {M : Type 1} → statement M
-woken-spec = tie.close (tie.spec returns returns-2)
+woken-spec = tie.close (tie.spec moved-requires returns)

@@ -12,17 +12,17 @@ use Rattle.state_text.proofs.write_lines.Tie as tie
 abbrev Inv-loop : tie.InvT-loop
 Inv-loop out₀ at s i₀ k₀ out i k =
     let t = linesTo k (stateLine s) in
-    (k ≤ 359) × (i ≡ at + length t) × (out ≡ laid out₀ at t)
+    (k ≤ 375) × (i ≡ at + length t) × (out ≡ laid out₀ at t)
 
 abbrev μ-loop : tie.MeasureT-loop
-μ-loop out₀ at s i₀ k₀ out i k = 359 - k
+μ-loop out₀ at s i₀ k₀ out i k = 375 - k
 
 -- the first j lines fit
-fit : (c : tie.Start Inv-loop μ-loop) (j : ℕ) → j ≤ 359 → c .args .at + length (linesTo j (stateLine (c .args .s))) ≤ length (c .args .out .now)
-fit c j h = omega (arith, c .pre, lines-le (stateLine (c .args .s)) j 359 h)
+fit : (c : tie.Start Inv-loop μ-loop) (j : ℕ) → j ≤ 375 → c .args .at + length (linesTo j (stateLine (c .args .s))) ≤ length (c .args .out .now)
+fit c j h = omega (arith, c .pre, lines-le (stateLine (c .args .s)) j 375 h)
 
 -- and change no length
-long : (c : tie.Start Inv-loop μ-loop) (j : ℕ) → j ≤ 359
+long : (c : tie.Start Inv-loop μ-loop) (j : ℕ) → j ≤ 375
     → length (laid (c .args .out .now) (c .args .at) (linesTo j (stateLine (c .args .s)))) ≡ length (c .args .out .now)
 long c j h = laid-long (c .args .out .now) (c .args .at) (linesTo j (stateLine (c .args .s))) (fit c j h)
 
@@ -71,7 +71,7 @@ same-length c =
 returns : tie.Need-returns Inv-loop μ-loop
 returns c =
     let l = c .before .loop in
-    let e : l .k ≡ 359 = omega arith in
+    let e : l .k ≡ 375 = omega arith in
     (rw e at (l .inv .2), rw e at (l .inv .1))
 
 pub write-lines-spec : {M : Type 1} → statement M

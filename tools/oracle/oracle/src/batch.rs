@@ -4,8 +4,18 @@ use crate::gen;
 use crate::model::*;
 use crate::script::*;
 
-/// `long`: one list, filled until it has no room.
-pub struct Options { pub calls: Option<usize>, pub long: bool }
+/// `long`: one list, filled until it has no room. `even`: `gen --even` on boards with layout that emulate instancing.
+pub struct Options { pub calls: Option<usize>, pub long: bool, pub even: bool }
+
+/// By which sessions are made, so that both builds make the same ones.
+const RULE: Rule = Rule::Bound;
+
+/// Sessions on boards with layout that emulate instancing: a third each as on other boards, `gen --even`, `gen --mixed`.
+fn kind(seed: u64, caps: Caps, o: &Options) -> (bool, bool) {
+    let k = gen::Rng(seed / 2).next() % 3;
+    let here = caps.layout && !caps.instancing;
+    (o.even || here && k == 1, !o.even && here && k == 2)
+}
 
 /// How a session is changed after it is made.
 #[derive(Clone, Copy, PartialEq)]
@@ -20,18 +30,21 @@ enum Form {
 }
 const FORMS: [Form; 6] = [Form::Whole, Form::Cut, Form::Room, Form::Rules, Form::Whole, Form::Cut];
 
-fn board(n: u64) -> Caps { Caps { layout: n & 8 != 0, barriers: n & 4 != 0, instancing: n & 2 != 0, msrtt: n & 1 != 0 } }
+fn board(n: u64, even: bool) -> Caps {
+    let n = if even { 8 | n & 5 } else { n };
+    Caps { layout: n & 8 != 0, barriers: n & 4 != 0, instancing: n & 2 != 0, msrtt: n & 1 != 0 }
+}
 
 /// The expected number of each call anew; how many are refused.
-fn judge(s: &mut Script) -> usize {
-    let mut m = Model::new(s.caps, s.room);
+fn judge(s: &mut Script, rule: Rule) -> usize {
+    let mut m = Model::by(rule, s.caps, s.room);
     for (_, expect, c) in &mut s.calls { *expect = Some(m.call(c, &Readings::LETTER).answer); }
     s.calls.iter().filter(|c| c.1 != Some(0)).count()
 }
 
 /// The most commands, bytes and queries of a list.
 fn needs(s: &Script) -> [u64; 3] {
-    let mut m = Model::new(s.caps, s.room);
+    let mut m = Model::by(RULE, s.caps, s.room);
     let mut most = [0; 3];
     for (_, _, c) in &s.calls {
         m.call(c, &Readings::LETTER);
@@ -59,9 +72,11 @@ fn one_less(room: &mut [u64; 3], turn: usize) {
 fn made(seed: u64, from: u64, o: &Options) -> (Script, usize) {
     let refused = seed % 2 == 1;
     let form = if o.long { Form::Whole } else { FORMS[(seed / 32 % 6) as usize] };
+    let caps = board(seed / 2 % 16, o.even);
+    let (even, mixed) = kind(seed, caps, o);
     let calls = o.calls.unwrap_or(if o.long { 2000 } else { 60 });
     let text = gen::session(from, &gen::Options {
-        calls, refused: refused && form != Form::Room, ambiguous: refused && form == Form::Rules, board: Some(board(seed / 2 % 16)), one_list: o.long, ..Default::default()
+        calls, refused: refused && form != Form::Room, ambiguous: refused && form == Form::Rules, board: Some(caps), one_list: o.long, even, mixed, rule: RULE, ..Default::default()
     });
     let mut s = Script::parse(&text).expect("the generator's script");
     match form {
@@ -69,16 +84,16 @@ fn made(seed: u64, from: u64, o: &Options) -> (Script, usize) {
         Form::Room => { s.room = needs(&s); if refused { one_less(&mut s.room, (seed / 192 % 3) as usize); } }
         Form::Whole | Form::Rules => {}
     }
-    let n = judge(&mut s);
+    let n = judge(&mut s, RULE);
     (s, n)
 }
 
-/// The session of a seed. Where an odd seed has no refused call, others are tried in its place.
+/// The session of a seed, its expected numbers by this build's rule. Where an odd seed has no refused call, others are tried in its place.
 pub fn session(seed: u64, o: &Options) -> Script {
     let mut from = seed;
     loop {
-        let (s, refused) = made(seed, from, o);
-        if (refused > 0) == (seed % 2 == 1) { return s; }
+        let (mut s, refused) = made(seed, from, o);
+        if (refused > 0) == (seed % 2 == 1) { judge(&mut s, Rule::BUILD); return s; }
         from = from.wrapping_add(1 << 40);
     }
 }

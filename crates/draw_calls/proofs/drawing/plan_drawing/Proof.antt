@@ -1,7 +1,7 @@
 -- `draw_calls::drawing::plan_drawing` meets its contract. Assumes nothing.
 use mathlib.Core.Bool.{false, not, _||_}
 use mathlib.Core.List.{_++_}
-use mathlib.Core.Path.{refl, sym}
+use mathlib.Core.Path.{_≡_, refl, sym}
 use lib.ListN.{length, length-append}
 use Rattle.slots.specs.Prepare.{prepared, preparedOver, preparedState}
 use Rattle.records.specs.declared.outcome.Conditions.{Conditions}
@@ -12,6 +12,7 @@ use Rattle.calls.specs.Planned.{listRooms, commandsOnly}
 use Rattle.calls.specs.Step.{outcomeOf}
 use Rattle.calls.proofs.Judged.{neither, no-sum}
 use Rattle.calls.proofs.Plans.{found, laid, next, some-written}
+use Rattle.draw_calls.proofs.Numbers.{numbers-long}
 use Rattle.draw_calls.proofs.Stepped.{vertex-moved}
 use borrow.Author.Needs.{needs}
 use Rattle.draw_calls.proofs.drawing.plan_drawing.Statement.{statement}
@@ -53,21 +54,25 @@ pick-requires c κs = search needs
 pick-requires-2 : tie.Need-pick-requires-2
 pick-requires-2 c κs = search needs
 
+remembered-requires : tie.Need-remembered-requires
+remembered-requires c κs = search needs
+
 returns : tie.Need-returns
 unfolding outcomeOf
 returns c =
     λ held own-fits.
-    let a = c .before .before .before .before .before .before .before .before .before .before .before .before .before .before .args in
+    let a = c .before .before .before .before .before .before .before .before .before .before .before .before .before .before .before .before .args in
     let s = a .s in
-    let ready = c .before .before .before .before .before .before .before .before .before .before .before .prepare .ensures in
-    let own = c .before .before .before .before .before .before .before .before .before .own-count in
+    let ready = c .before .before .before .before .before .before .before .before .before .before .before .before .before .prepare .ensures in
+    let own = c .before .before .before .before .before .before .before .before .before .before .before .own-count in
     let ps = prepared (a .caps) (s .vertex) (a .w) in
     let cs = ps ++ ownCommands (a .own) in
     let asks : Conditions =
     record { phase = not (inRender (s .progress .phase)); many = false; range = false; absent = a .absent; kind = false; sum = preparedOver (a .caps) (s .vertex) (a .w) || a .over; room = false } in
-    let k = found (a .room) s asks (s .progress .phase) cs _ _ _ _ _ (c .before .before .before .before .before .before .before .before .list-rooms .ensures) held (rw (ready .0, own .ensures) (sym (length-append ps (ownCommands (a .own))))) (c .before .before .before .before .before .before .before .commands-only .ensures)
-    (rw (c .before .before .before .before .before .before .in-render .ensures, ready .3) at (c .before .before .before .before .judge .ensures)) (c .before .before .before .spot-of .ensures) in
-    let after = vertex-moved _ _ _ (a .w) _ _ _ s _ (c .before .pick .ensures) (c .pick2 .ensures) (k .sure) (ready .2) in (
+    let k = found (a .room) s asks (s .progress .phase) cs _ _ _ _ _ (c .before .before .before .before .before .before .before .before .before .before .list-rooms .ensures) held (rw (ready .0, own .ensures) (sym (length-append ps (ownCommands (a .own))))) (c .before .before .before .before .before .before .before .before .before .commands-only .ensures)
+    (rw (c .before .before .before .before .before .before .before .before .in-render .ensures, ready .4) at (c .before .before .before .before .before .before .judge .ensures)) (c .before .before .before .before .before .spot-of .ensures) in
+    let long = numbers-long s _ (c .before .before .before .before .before .before .before .before .before .before .before .before .before .before .before .before .good .1 .1 .1 .0) in
+    let after = vertex-moved _ _ _ _ (a .w) _ _ _ _ _ s _ long (c .before .before .before .pick .ensures) (c .before .before .pick2 .ensures) (c .remembered .ensures) (k .sure) (ready .2) (ready .3) in (
       (k .said, next (a .room) s asks (s .progress .phase) cs k (withVertex (preparedState (a .caps) (s .vertex) (a .w)) s) _ after),
       laid (a .room) s asks (s .progress .phase) cs _ _ _ (k .here) (k .many) (λ h i l. refl),
       λ i h.
@@ -92,4 +97,5 @@ plan-drawing-spec =
     spot-of-requires
     pick-requires
     pick-requires-2
+    remembered-requires
     returns)

@@ -33,11 +33,11 @@ returns c =
       c .instance-slots .ensures,
       c .before .count-after .ensures,
       c .before .before .stepped-slots .ensures,
-      c .before .before .before .before .attributes-after .ensures,
-      c .before .before .before .before .before .strided-slots .ensures,
-      c .before .before .before .before .before .before .changed-slots .ensures,
-      c .before .before .before .before .before .before .before .dirty-before .ensures,
-      c .before .before .before .before .before .before .before .before .described-slots .ensures,
+      c .before .before .before .before .before .attributes-after .ensures,
+      c .before .before .before .before .before .before .strided-slots .ensures,
+      c .before .before .before .before .before .before .before .changed-slots .ensures,
+      c .before .before .before .before .before .before .before .before .dirty-before .ensures,
+      c .before .before .before .before .before .before .before .before .before .described-slots .ensures,
     )
 
 pub pipeline-vertex-spec : {M : Type 1} → statement M

@@ -1,29 +1,26 @@
 -- `slots::prepare::slots_over` meets its contract. Invariant: what is found, or found in the places left, is what is found in all. Measure: the places left, as a number. Assumes nothing.
 use Prim.Native.Nat.{_<_, _^_}
-use mathlib.Core.Path.{_≡_, _∙_, sym}
+use mathlib.Core.Path.{_≡_, refl, _∙_, sym}
 use mathlib.Core.Bool.{_||_}
 use borrow.Author.Needs.{needs}
 use native.Mathlib.Omega.{arith}
 use Rattle.mask.specs.Mask.{places}
 use Rattle.mask.specs.Laws.{rest-lt, rest-le, places-none}
 use Rattle.records.specs.Check.{some?}
-use Rattle.slots.specs.Prepare.{rebound, slotOver}
+use Rattle.slots.specs.Prepare.{slotOver}
 use Rattle.slots.proofs.Masks.{some-first, or-false}
 use Rattle.slots.proofs.prepare.slots_over.Statement.{statement}
 use Rattle.slots.proofs.prepare.slots_over.Tie as tie
 
 abbrev Inv-loop : tie.InvT-loop
-Inv-loop v w left₀ over₀ left over =
-    (left < 2 ^ 32) × (over || some? (slotOver v w) (places left) ≡ some? (slotOver v w) (places (rebound v w)))
+Inv-loop v w m left₀ over₀ left over =
+    (left < 2 ^ 32) × (over || some? (slotOver v w) (places left) ≡ some? (slotOver v w) (places m))
 
 abbrev μ-loop : tie.MeasureT-loop
-μ-loop v w left₀ over₀ left over = left
-
-rebound-requires : tie.Need-rebound-requires Inv-loop μ-loop
-rebound-requires c κs = search needs
+μ-loop v w m left₀ over₀ left over = left
 
 loop-holds : tie.Need-loop-holds Inv-loop μ-loop
-loop-holds c = (omega arith, rw (c .rebound .ensures))
+loop-holds c = (omega arith, refl)
 
 lowest-requires : tie.Need-lowest-requires Inv-loop μ-loop
 lowest-requires c κs = search needs
@@ -41,7 +38,7 @@ loop-less c =
 
 loop-again : tie.Need-loop-again Inv-loop μ-loop
 loop-again c =
-    let a = c .before .before .before .before .before .before .args in
+    let a = c .before .before .before .before .before .args in
     let l = c .before .before .before .before .loop in (
       omega (arith, c .rest .ensures, l .inv .0, rest-le (l .left)),
       rw (c .rest .ensures, c .before .slot-over .ensures, c .before .before .lowest .ensures)
@@ -61,7 +58,6 @@ slots-over-spec =
     (tie.spec
     Inv-loop
     μ-loop
-    rebound-requires
     loop-holds
     lowest-requires
     slot-over-requires

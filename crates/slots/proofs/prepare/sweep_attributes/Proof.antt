@@ -19,16 +19,13 @@ Inv-loop v w m left₀ sweep₀ attributes left sweep =
 abbrev μ-loop : tie.MeasureT-loop
 μ-loop v w m left₀ sweep₀ attributes left sweep = left
 
-rebound-requires : tie.Need-rebound-requires Inv-loop μ-loop
-rebound-requires c κs = search needs
-
 within-requires : tie.Need-within-requires Inv-loop μ-loop
 within-requires c κs = search needs
 
 loop-holds : tie.Need-loop-holds Inv-loop μ-loop
 unfolding swept
 loop-holds c =
-    let s = c .before .before .before in
+    let s = c .before .before in
     let v = s .args .v in (
       omega arith,
       omega arith,
@@ -53,10 +50,10 @@ loop-less c = omega arith
 loop-again : tie.Need-loop-again Inv-loop μ-loop
 unfolding swept
 loop-again c =
-    let s = c .before .before .before .before .before .before .before in
+    let s = c .before .before .before .before .before .before in
     let v = s .args .v in
     let l = c .before .before .before .loop in
-    let r = c .before .before .before .before .before .before .rebound .result in
+    let r = s .args .m in
     let n = v .«attribute_count» in
     let e = attributes-long v _ (s .good .0) in
     let a = getD (v .attributes) (l .left - 1) startAttribute in
@@ -74,7 +71,7 @@ returns : tie.Need-returns Inv-loop μ-loop
 returns c =
     let l = c .before .loop in
     let e : l .left ≡ 0 = omega arith in
-    rw (e, c .before .before .before .before .rebound .ensures) at (l .inv .2)
+    rw e at (l .inv .2)
 
 pub sweep-attributes-spec : {M : Type 1} → statement M
 sweep-attributes-spec =
@@ -82,7 +79,6 @@ sweep-attributes-spec =
     (tie.spec
     Inv-loop
     μ-loop
-    rebound-requires
     within-requires
     loop-holds
     sub-left

@@ -9,10 +9,10 @@ use Rattle.state_text.proofs.state.place_of.Statement.{statement}
 use Rattle.state_text.proofs.state.place_of.Tie as tie
 
 abbrev Inv-loop : tie.InvT-loop
-Inv-loop k row₀ i₀ row i = (row ≤ 22) × (placeIn (drop row rowPlaces) row i ≡ placeIn rowPlaces 0 k)
+Inv-loop k row₀ i₀ row i = (row ≤ 23) × (placeIn (drop row rowPlaces) row i ≡ placeIn rowPlaces 0 k)
 
 abbrev μ-loop : tie.MeasureT-loop
-μ-loop k row₀ i₀ row i = 22 - row
+μ-loop k row₀ i₀ row i = 23 - row
 
 loop-holds : tie.Need-loop-holds Inv-loop μ-loop
 loop-holds c = (omega arith, refl)
@@ -43,7 +43,7 @@ returns-2 : tie.Need-returns-2 Inv-loop μ-loop
 unfolding placeIn
 returns-2 c =
     let l = c .before .loop in
-    let e : l .row ≡ 22 = omega arith in
+    let e : l .row ≡ 23 = omega arith in
     (rw e (rw e at (l .inv .1)), l .inv .0)
 
 pub place-of-spec : {M : Type 1} → statement M

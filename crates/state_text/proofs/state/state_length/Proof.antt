@@ -10,10 +10,10 @@ use Rattle.state_text.proofs.state.state_length.Statement.{statement}
 use Rattle.state_text.proofs.state.state_length.Tie as tie
 
 abbrev Inv-loop : tie.InvT-loop
-Inv-loop s total₀ k₀ total k = (k ≤ 359) × (total ≤ 384 * k) × (total ≡ length (linesTo k (stateLine s)))
+Inv-loop s total₀ k₀ total k = (k ≤ 375) × (total ≤ 384 * k) × (total ≡ length (linesTo k (stateLine s)))
 
 abbrev μ-loop : tie.MeasureT-loop
-μ-loop s total₀ k₀ total k = 359 - k
+μ-loop s total₀ k₀ total k = 375 - k
 
 loop-holds : tie.Need-loop-holds Inv-loop μ-loop
 unfolding linesTo
@@ -43,7 +43,7 @@ loop-again c =
 returns : tie.Need-returns Inv-loop μ-loop
 returns c =
     let l = c .before .loop in
-    let e : l .k ≡ 359 = omega arith in
+    let e : l .k ≡ 375 = omega arith in
     rw e at (l .inv .2)
 
 pub state-length-spec : {M : Type 1} → statement M

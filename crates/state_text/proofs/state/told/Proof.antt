@@ -62,6 +62,9 @@ flag-requires-2 c κs = search needs
 masks-requires : tie.Need-masks-requires
 masks-requires c κs = search needs
 
+instance-requires : tie.Need-instance-requires
+instance-requires c κs = search needs
+
 optional-requires : tie.Need-optional-requires
 optional-requires c κs = search needs
 
@@ -168,33 +171,38 @@ returns-17 c =
 returns-18 : tie.Need-returns-18
 returns-18 c =
     let a = c .before .before .before .before .args in
-    at-row (a .s) (a .i) (c .before .match .keys18) (tells (rowAt (a .s) 17) (a .i) 66 (c .optional .ensures) tt (lit< tt) refl)
+    at-row (a .s) (a .i) (c .before .match .keys18) (tells (rowAt (a .s) 17) (a .i) 66 (c .instance .ensures) tt (lit< tt) refl)
 
 returns-19 : tie.Need-returns-19
 returns-19 c =
     let a = c .before .before .before .before .args in
-    at-row (a .s) (a .i) (c .before .match .keys19) (tells (rowAt (a .s) 18) (a .i) 67 (c .descriptor .ensures) tt (lit< tt) refl)
+    at-row (a .s) (a .i) (c .before .match .keys19) (tells (rowAt (a .s) 18) (a .i) 67 (c .optional .ensures) tt (lit< tt) refl)
 
 returns-20 : tie.Need-returns-20
 returns-20 c =
     let a = c .before .before .before .before .args in
-    at-row (a .s) (a .i) (c .before .match .keys20) (tells (rowAt (a .s) 19) (a .i) 68 (c .word .ensures) tt (lit< tt) refl)
+    at-row (a .s) (a .i) (c .before .match .keys20) (tells (rowAt (a .s) 19) (a .i) 68 (c .descriptor .ensures) tt (lit< tt) refl)
 
 returns-21 : tie.Need-returns-21
 returns-21 c =
     let a = c .before .before .before .before .args in
-    at-row (a .s) (a .i) (c .before .match .keys21) (tells (rowAt (a .s) 20) (a .i) 69 (c .optional2 .ensures) tt (lit< tt) refl)
+    at-row (a .s) (a .i) (c .before .match .keys21) (tells (rowAt (a .s) 20) (a .i) 69 (c .word .ensures) tt (lit< tt) refl)
 
 returns-22 : tie.Need-returns-22
 returns-22 c =
     let a = c .before .before .before .before .args in
-    at-row (a .s) (a .i) (c .before .match .keys22) (tells (rowAt (a .s) 21) (a .i) 70 (c .number2 .ensures) tt (lit< tt) refl)
+    at-row (a .s) (a .i) (c .before .match .keys22) (tells (rowAt (a .s) 21) (a .i) 70 (c .optional2 .ensures) tt (lit< tt) refl)
 
 returns-23 : tie.Need-returns-23
 returns-23 c =
     let a = c .before .before .before .before .args in
-    let h : 22 ≤ a .row = past 22 (a .row) (c .before .match .rest) in
-    let e : a .row ≡ 22 = omega (arith, c .before .before .before .before .pre) in
+    at-row (a .s) (a .i) (c .before .match .keys23) (tells (rowAt (a .s) 22) (a .i) 71 (c .number2 .ensures) tt (lit< tt) refl)
+
+returns-24 : tie.Need-returns-24
+returns-24 c =
+    let a = c .before .before .before .before .args in
+    let h : 23 ≤ a .row = past 23 (a .row) (c .before .match .rest) in
+    let e : a .row ≡ 23 = omega (arith, c .before .before .before .before .pre) in
     at-row (a .s) (a .i) e (tells-none (a .i) (c .nothing .ensures))
 
 pub told-spec : {M : Type 1} → statement M
@@ -218,6 +226,7 @@ told-spec =
     invalidate-requires
     flag-requires-2
     masks-requires
+    instance-requires
     optional-requires
     descriptor-requires
     word-requires
@@ -246,4 +255,5 @@ told-spec =
     returns-20
     returns-21
     returns-22
-    returns-23)
+    returns-23
+    returns-24)

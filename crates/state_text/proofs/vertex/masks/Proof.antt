@@ -5,11 +5,11 @@ use borrow.Author.Needs.{needs}
 use Rattle.state_text.proofs.vertex.masks.Statement.{statement}
 use Rattle.state_text.proofs.vertex.masks.Tie as tie
 
-six-requires : tie.Need-six-requires
-six-requires c κs = search needs
+four-requires : tie.Need-four-requires
+four-requires c κs = search needs
 
 returns : tie.Need-returns
-returns c = shown-is true (c .six .ensures)
+returns c = shown-is true (c .four .ensures)
 
 pub masks-spec : {M : Type 1} → statement M
-masks-spec = tie.close (tie.spec six-requires returns)
+masks-spec = tie.close (tie.spec four-requires returns)

@@ -10,7 +10,7 @@ use Rattle.text.proofs.put.put_part.Tie as tie
 
 abbrev Inv-loop : tie.InvT-loop
 Inv-loop line₀ at from to k₀ i₀ line k i =
-    (from ≤ k) × (k ≤ 1007) × (k ≤ from + i) × Going (slice from to names) (slice from k names) line₀ at line i
+    (from ≤ k) × (k ≤ 994) × (k ≤ from + i) × Going (slice from to names) (slice from k names) line₀ at line i
 
 abbrev μ-loop : tie.MeasureT-loop
 μ-loop line₀ at from to k₀ i₀ line k i = k

@@ -33,7 +33,7 @@ pub(super) struct State {
     has_pass_label: bool,
     instance_vbuf_mask: usize,
     dirty_vbuf_mask: usize,
-    active_first_instance: u32,
+    active_first_instance: [u32; crate::MAX_VERTEX_BUFFERS],
     first_instance_location: Option<glow::UniformLocation>,
     immediates_descs: ArrayVec<super::ImmediateDesc, { super::MAX_IMMEDIATES_COMMANDS }>,
     // The current state of the immediate data block.
@@ -159,6 +159,7 @@ impl super::CommandEncoder {
                     buffer_desc,
                 });
                 self.state.dirty_vbuf_mask ^= 1 << index;
+                self.state.active_first_instance[index] = first_instance;
             }
         } else {
             let mut vbuf_mask = 0;
@@ -185,6 +186,7 @@ impl super::CommandEncoder {
                     attribute_desc,
                 });
                 vbuf_mask |= 1 << attribute.buffer_index;
+                self.state.active_first_instance[attribute.buffer_index as usize] = first_instance;
             }
             self.state.dirty_vbuf_mask ^= vbuf_mask;
         }
@@ -219,10 +221,13 @@ impl super::CommandEncoder {
             first_instance
         };
 
-        if emulated_first_instance_value != self.state.active_first_instance {
-            // rebind all per-instance buffers on first-instance change
-            self.state.dirty_vbuf_mask |= self.state.instance_vbuf_mask;
-            self.state.active_first_instance = emulated_first_instance_value;
+        for index in 0..crate::MAX_VERTEX_BUFFERS {
+            // rebind a per-instance buffer that was last bound with another first instance
+            if self.state.instance_vbuf_mask & (1 << index) != 0
+                && emulated_first_instance_value != self.state.active_first_instance[index]
+            {
+                self.state.dirty_vbuf_mask |= 1 << index;
+            }
         }
         if self.state.dirty_vbuf_mask != 0 {
             self.rebind_vertex_data(emulated_first_instance_value);
@@ -716,7 +721,7 @@ impl crate::CommandEncoder for super::CommandEncoder {
         }
         self.state.instance_vbuf_mask = 0;
         self.state.dirty_vbuf_mask = 0;
-        self.state.active_first_instance = 0;
+        self.state.active_first_instance = [0; crate::MAX_VERTEX_BUFFERS];
         self.state.color_targets.clear();
         for vat in &self.state.vertex_attributes {
             self.cmd_buffer
