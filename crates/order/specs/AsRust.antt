@@ -37,7 +37,7 @@ use Rattle.order.specs.Lists.{false-true, true-false, and-true, and-fals
 use Rattle.order.specs.Book.{Fed, known}
 use Rattle.order.specs.Run.{carried, Recording, record-call, record-calls, fed, begun}
 use Rattle.order.specs.Accepted.{in-range}
-use Rattle.order.specs.OneNumber.{numbered, Turn, forgets, pipes, draws, passes, turnOf, renumbered, rustState, rust-calls, rust-fed, lastPipeline, EvenAt, Even}
+use Rattle.order.specs.OneNumber.{numbered, Turn, draws, passes, turnOf, numberAfter, nextNumber, rust-calls, rust-fed, lastPipeline, EvenAt, Even}
 use Rattle.order.specs.Twin.{other, Same, zeroed, rebuffered, alike, redrawn, repiped}
 
 -- the state with that dirty mask, and one number for all slots
@@ -63,9 +63,8 @@ record Both (caps : PrivateCapabilities) (rooms : Rooms) (o : Option RenderPipel
   left : State
   means : meaning caps (put d n s) c ≡ leaving left (meaning caps s c)
   dirty : ℕ
-  one : ℕ
-  after : renumbered (turnOf caps c) left ≡ put dirty one (withProgress (left .progress) (meaning caps s c .after))
-  same : carried caps rooms s c ≡ true → Same caps (lastPipeline o (turnOf caps c)) (meaning caps s c .after .vertex) dirty one
+  after : numbered (numberAfter (turnOf caps c) n) left ≡ put dirty (numberAfter (turnOf caps c) n) (withProgress (left .progress) (meaning caps s c .after))
+  same : carried caps rooms s c ≡ true → Same caps (lastPipeline o (turnOf caps c)) (meaning caps s c .after .vertex) dirty (numberAfter (turnOf caps c) n)
 
 working-zero : (caps : PrivateCapabilities) (instance : ℕ) → caps .«fully_featured_instancing» ≡ true → working caps instance ≡ 0
 working-zero caps instance e = ap (λ (t : Bool). cond t 0 instance) e
@@ -83,18 +82,19 @@ module _ (caps : PrivateCapabilities) (rooms : Rooms) (o : Option RenderPipeline
 
   -- a call that leaves the slots alone
   quiet : (c : Call) → meaning caps t c ≡ leaving (meaning caps t c .after) (meaning caps s c)
-      → renumbered (turnOf caps c) (meaning caps t c .after) ≡ put d n (withProgress (meaning caps t c .after .progress) (meaning caps s c .after))
-      → meaning caps s c .after .vertex ≡ v → lastPipeline o (turnOf caps c) ≡ o → Both caps rooms o s d n c
+      → numbered n (meaning caps t c .after) ≡ put d n (withProgress (meaning caps t c .after .progress) (meaning caps s c .after))
+      → meaning caps s c .after .vertex ≡ v → turnOf caps c ≡ passes → Both caps rooms o s d n c
   quiet c e a x l =
       record {
         left = meaning caps t c .after;
         means = e;
         dirty = d;
-        one = n;
-        after = a;
+        after =
+            subst (λ (y : Turn). numbered (numberAfter y n) (meaning caps t c .after) ≡ put d (numberAfter y n) (withProgress (meaning caps t c .after .progress) (meaning caps s c .after)))
+            (sym l) a;
         same = λ k.
-            subst (λ (y : VertexState). Same caps (lastPipeline o (turnOf caps c)) y d n) (sym x)
-            (subst (λ (q : Option RenderPipeline). Same caps q v d n) (sym l) S);
+            subst (λ (y : VertexState). Same caps (lastPipeline o (turnOf caps c)) y d (numberAfter (turnOf caps c) n)) (sym x)
+            (subst (λ (y : Turn). Same caps (lastPipeline o y) v d (numberAfter y n)) (sym l) S);
       }
 
   -- what a draw prepares
@@ -117,15 +117,17 @@ module _ (caps : PrivateCapabilities) (rooms : Rooms) (o : Option RenderPipeline
       record {
         left = drawn caps w t;
         means = theirs ∙ drawing-both w four six cs ∙ ap (leaving (drawn caps w t)) (sym ours);
-        dirty = without (woken (t .vertex) w) (cleared caps (t .vertex) w);
-        one = w;
+        dirty = still-dirty;
         after =
-            ap (λ (x : Turn). renumbered x (drawn caps w t)) turn
-            ∙ sym (ap (λ (m : Meaning). put (without (woken (t .vertex) w) (cleared caps (t .vertex) w)) w (withProgress (t .progress) (m .after))) ours);
+            ap (λ (x : Turn). numbered (numberAfter x n) (drawn caps w t)) turn
+            ∙ sym (λ j. put still-dirty (numberAfter (turn j) n) (withProgress (t .progress) (ours j .after)));
         same = λ k.
-            subst (λ (x : Turn). Same caps (lastPipeline o x) (meaning caps s c .after .vertex) (without (woken (t .vertex) w) (cleared caps (t .vertex) w)) w) (sym turn)
-            (subst (λ (m : Meaning). Same caps o (m .after .vertex) (without (woken (t .vertex) w) (cleared caps (t .vertex) w)) w) (sym ours) (redrawn caps o v d n S w full (unpiped k)));
+            subst (λ (x : Turn). Same caps (lastPipeline o x) (meaning caps s c .after .vertex) still-dirty (numberAfter x n)) (sym turn)
+            (subst (λ (m : Meaning). Same caps o (m .after .vertex) still-dirty w) (sym ours) (redrawn caps o v d n S w full (unpiped k)));
       }
+    where
+      still-dirty : ℕ
+      still-dirty = without (woken (t .vertex) w) (cleared caps (t .vertex) w)
 
   direct-zero : (instance : ℕ) (c : Call) → Asked c → turnOf caps c ≡ draws (working caps instance) true → carried caps rooms s c ≡ true
       → caps .«vertex_buffer_layout» ≡ true → o ≡ none → working caps instance ≡ 0
@@ -136,9 +138,9 @@ module _ (caps : PrivateCapabilities) (rooms : Rooms) (o : Option RenderPipeline
       go false f = false-true (sym (ap known q) ∙ subst (EvenAt o) e (E layout f k) refl)
 
   both : (c : Call) → Asked c → Both caps rooms o s d n c
-  both begin-encoding E = record { left = meaning caps t begin-encoding .after; means = refl; dirty = 0; one = 0; after = refl; same = λ k. zeroed caps startVertex refl refl }
+  both begin-encoding E = record { left = meaning caps t begin-encoding .after; means = refl; dirty = 0; after = refl; same = λ k. zeroed caps startVertex refl refl }
   both end-encoding E = quiet end-encoding refl refl refl refl
-  both end-render-pass E = record { left = meaning caps t end-render-pass .after; means = refl; dirty = 0; one = 0; after = refl; same = λ k. zeroed caps (endVertex v) refl refl }
+  both end-render-pass E = record { left = meaning caps t end-render-pass .after; means = refl; dirty = 0; after = refl; same = λ k. zeroed caps (endVertex v) refl refl }
   both end-compute-pass E = quiet end-compute-pass refl refl refl refl
   both (begin-render-pass p label set) E = quiet (begin-render-pass p label set) refl refl refl refl
   both (begin-compute-pass p label set) E = quiet (begin-compute-pass p label set) refl refl refl refl
@@ -158,7 +160,6 @@ module _ (caps : PrivateCapabilities) (rooms : Rooms) (o : Option RenderPipeline
         left = meaning caps t (set-render-pipeline p) .after;
         means = refl;
         dirty = bitOr (dirtyBefore caps p (t .vertex)) (changedSlots p v);
-        one = n;
         after = refl;
         same = λ k. repiped caps o v d n p S (λ layout f q e i l. E layout f k q e i l);
       }
@@ -169,7 +170,6 @@ module _ (caps : PrivateCapabilities) (rooms : Rooms) (o : Option RenderPipeline
         left = meaning caps t (set-vertex-buffer i raw offset) .after;
         means = refl;
         dirty = setBit d i;
-        one = n;
         after = refl;
         same = λ k. rebuffered caps o v d n i raw offset (leb-false 16 i (in-range rooms s (meaning caps s (set-vertex-buffer i raw offset)) k)) S;
       }
@@ -217,26 +217,21 @@ module _ (caps : PrivateCapabilities) (rooms : Rooms) (o : Option RenderPipeline
       ∙ ap (λ (k : Conditions). smallest (either k (callConditions rooms s (meaning caps s c)))) (same-check (meaning caps s c .handed rooms))
 
 -- ---- two recordings of the same calls
-pub record Twins (caps : PrivateCapabilities) (o : Option RenderPipeline) (s t : State) : Type 0 where
+pub record Twins (caps : PrivateCapabilities) (o : Option RenderPipeline) (s : State) (n : ℕ) (t : State) : Type 0 where
   pub dirty : ℕ
-  pub one : ℕ
-  pub is : t ≡ put dirty one s
-  pub same : Same caps o (s .vertex) dirty one
-
-renumbered-counts : (x : Turn) (p : Progress) (s : State) → renumbered x (withProgress p s) ≡ withProgress p (renumbered x s)
-renumbered-counts forgets p s = refl
-renumbered-counts (pipes q) p s = refl
-renumbered-counts (draws w made) p s = refl
-renumbered-counts passes p s = refl
+  pub is : t ≡ put dirty n s
+  pub same : Same caps o (s .vertex) dirty n
 
 -- one call: both answer the same, append the same, and are twins again
-record Stepped (caps : PrivateCapabilities) (rooms : Rooms) (o : Option RenderPipeline) (s t : State) (c : Call) : Type 0 where
+record Stepped (caps : PrivateCapabilities) (rooms : Rooms) (o : Option RenderPipeline) (s : State) (n : ℕ) (t : State) (c : Call) : Type 0 where
   carries : carried caps rooms t c ≡ carried caps rooms s c
   lists : (l : List Command) → record-call caps rooms (record { state = t; list = l }) c .list ≡ record-call caps rooms (record { state = s; list = l }) c .list
-  twins : Twins caps (cond (carried caps rooms s c) (lastPipeline o (turnOf caps c)) o) (step caps rooms s c .state) (rustState caps rooms t c)
+  twins :
+      let k = cond (carried caps rooms t c) (numberAfter (turnOf caps c) n) n in
+      Twins caps (cond (carried caps rooms s c) (lastPipeline o (turnOf caps c)) o) (step caps rooms s c .state) k (numbered k (step caps rooms t c .state))
 
 one-step : (caps : PrivateCapabilities) (rooms : Rooms) (o : Option RenderPipeline) (s : State) (d n : ℕ) (S : Same caps o (s .vertex) d n) (c : Call) → Asked caps rooms o s d n S c
-    → Stepped caps rooms o s (put d n s) c
+    → Stepped caps rooms o s n (put d n s) c
 one-step caps rooms o s d n S c E =
     record {
       carries = carries;
@@ -263,59 +258,65 @@ one-step caps rooms o s d n S c E =
     carries = ap accepted (same-outcome caps rooms o s d n S c E)
 
     go : (k k′ : Bool) → carried caps rooms s c ≡ k → k′ ≡ carried caps rooms s c
-        → Twins caps (cond k (lastPipeline o (turnOf caps c)) o) (cond k (withProgress (progressAfter m) (m .after)) s)
-        (cond k′ (renumbered (turnOf caps c) (cond k′ (withProgress (progressAfter m′) (m′ .after)) t′)) t′)
+        → let w = cond k′ (numberAfter (turnOf caps c) n) n in
+        Twins caps (cond k (lastPipeline o (turnOf caps c)) o) (cond k (withProgress (progressAfter m) (m .after)) s) w (numbered w (cond k′ (withProgress (progressAfter m′) (m′ .after)) t′))
     go true true e q =
         record {
           dirty = B .dirty;
-          one = B .one;
           is =
-              ap (λ (x : Meaning). renumbered (turnOf caps c) (withProgress (progressAfter x) (x .after))) means
-              ∙ renumbered-counts (turnOf caps c) (progressAfter m) (B .left)
+              ap (λ (x : Meaning). numbered (numberAfter (turnOf caps c) n) (withProgress (progressAfter x) (x .after))) means
               ∙ ap (withProgress (progressAfter m)) (B .after);
           same = B .same e;
         }
     go true false e q = false-true (q ∙ e)
     go false true e q = true-false (q ∙ e)
-    go false false e q = record { dirty = d; one = n; is = refl; same = S }
+    go false false e q = record { dirty = d; is = refl; same = S }
 
 -- the condition, where it is asked
 abbrev pub EvenWhere : PrivateCapabilities → Option RenderPipeline → List Fed → Type 0
 EvenWhere caps o fs = caps .«vertex_buffer_layout» ≡ true → caps .«fully_featured_instancing» ≡ false → Even caps o fs
 
-pub all-steps : (caps : PrivateCapabilities) (rooms : Rooms) (o : Option RenderPipeline) (s t : State) (l : List Command) (cs : List Call) → Twins caps o s t → EvenWhere caps o (fed caps rooms s cs)
-    → (record-calls caps rooms (record { state = s; list = l }) cs .list ≡ rust-calls caps rooms (record { state = t; list = l }) cs .list) × (fed caps rooms s cs ≡ rust-fed caps rooms t cs)
+pub all-steps : (caps : PrivateCapabilities) (rooms : Rooms) (o : Option RenderPipeline) (s t : State) (n : ℕ) (l : List Command) (cs : List Call)
+    → Twins caps o s n (numbered n t) → EvenWhere caps o (fed caps rooms s cs)
+    → (record-calls caps rooms (record { state = s; list = l }) cs .list ≡ rust-calls caps rooms (record { state = t; list = l }) n cs .list)
+    × (fed caps rooms s cs ≡ rust-fed caps rooms t n cs)
 unfolding record-calls rust-calls fed rust-fed Even
-all-steps caps rooms o s t l [] T E = (refl, refl)
-all-steps caps rooms o s t l (c ∷ cs) T E =
-    let next : Stepped caps rooms o s t c = subst (λ (x : State). Stepped caps rooms o s x c) (sym (T .is)) (one-step caps rooms o s (T .dirty) (T .one) (T .same) c (λ layout f k. E layout f .0 k)) in
-    let I =
-    all-steps caps rooms (cond (carried caps rooms s c) (lastPipeline o (turnOf caps c)) o) (step caps rooms s c .state) (rustState caps rooms t c)
-    (record-call caps rooms (record { state = s; list = l }) c .list) cs
+all-steps caps rooms o s t n l [] T E = (refl, refl)
+all-steps caps rooms o s t n l (c ∷ cs) T E =
+    let next : Stepped caps rooms o s n (numbered n t) c =
+    subst (λ (x : State). Stepped caps rooms o s n x c) (sym (T .is)) (one-step caps rooms o s (T .dirty) n (T .same) c (λ layout f k. E layout f .0 k)) in
+    let k = nextNumber caps rooms t n c in
+    let l′ = record-call caps rooms (record { state = s; list = l }) c .list in
+    let I = all-steps caps rooms (cond (carried caps rooms s c) (lastPipeline o (turnOf caps c)) o) (step caps rooms s c .state) (step caps rooms (numbered n t) c .state) k l′ cs
     (next .twins) (λ layout f. E layout f .1) in (
-      I .0 ∙ ap (λ (x : List Command). rust-calls caps rooms (record { state = rustState caps rooms t c; list = x }) cs .list) (sym (next .lists l)),
+      I .0 ∙ ap (λ (x : List Command). rust-calls caps rooms (record { state = step caps rooms (numbered n t) c .state; list = x }) k cs .list) (sym (next .lists l)),
       ap₂ (λ (b : Bool) (fs : List Fed). record { call = c; accepted = b } ∷ fs) (sym (next .carries)) (I .1),
     )
 
--- `begin_encoding` starts both alike
-pub started : (caps : PrivateCapabilities) (rooms : Rooms) (s : State) → carried caps rooms s begin-encoding ≡ true → Twins caps none (begun caps rooms s .state) (begun caps rooms s .state)
+-- `begin_encoding` starts both alike, the one number 0
+pub started : (caps : PrivateCapabilities) (rooms : Rooms) (s : State) → carried caps rooms s begin-encoding ≡ true
+    → Twins caps none (begun caps rooms s .state) 0 (numbered 0 (begun caps rooms s .state))
 started caps rooms s e =
-    subst (λ (x : State). Twins caps none x x) (sym (ap (λ (t : Bool). cond t (withProgress (progressAfter (meaning caps s begin-encoding)) (meaning caps s begin-encoding .after)) s) e))
-    (record { dirty = 0; one = 0; is = refl; same = zeroed caps startVertex refl refl })
+    subst (λ (x : State). Twins caps none x 0 (numbered 0 x))
+    (sym (ap (λ (t : Bool). cond t (withProgress (progressAfter (meaning caps s begin-encoding)) (meaning caps s begin-encoding .after)) s) e))
+    (record { dirty = 0; is = refl; same = zeroed caps startVertex refl refl })
 
 -- THE LIST IS THE RUST'S, and so are the answers
 pub as-rust : (caps : PrivateCapabilities) (rooms : Rooms) (s : State) (calls : List Call)
     → carried caps rooms s begin-encoding ≡ true → EvenWhere caps none (fed caps rooms (begun caps rooms s .state) calls)
-    → (record-calls caps rooms (begun caps rooms s) calls .list ≡ rust-calls caps rooms (begun caps rooms s) calls .list)
-    × (fed caps rooms (begun caps rooms s .state) calls ≡ rust-fed caps rooms (begun caps rooms s .state) calls)
-as-rust caps rooms s calls e E = all-steps caps rooms none (begun caps rooms s .state) (begun caps rooms s .state) [] calls (started caps rooms s e) E
+    → (record-calls caps rooms (begun caps rooms s) calls .list ≡ rust-calls caps rooms (begun caps rooms s) 0 calls .list)
+    × (fed caps rooms (begun caps rooms s .state) calls ≡ rust-fed caps rooms (begun caps rooms s .state) 0 calls)
+as-rust caps rooms s calls e E = all-steps caps rooms none (begun caps rooms s .state) (begun caps rooms s .state) 0 [] calls (started caps rooms s e) E
 
 -- ---- the Rust's rule, said as document 01 says it
 -- "If it differs from the last, the pipeline's instance slots join the dirty mask"
-pub rust-wakes : (n w : ℕ) (v : VertexState) → v .«instance_vbuf_mask» < 2 ^ 16
-    → woken (numbered n v) w ≡ cond (eqb w n) (v .«dirty_vbuf_mask») (bitOr (v .«dirty_vbuf_mask») (v .«instance_vbuf_mask»))
-rust-wakes n w v low = go (eqb w n) refl
+pub rust-wakes : (n w : ℕ) (s : State) → s .vertex .«instance_vbuf_mask» < 2 ^ 16
+    → woken (numbered n s .vertex) w ≡ cond (eqb w n) (s .vertex .«dirty_vbuf_mask») (bitOr (s .vertex .«dirty_vbuf_mask») (s .vertex .«instance_vbuf_mask»))
+rust-wakes n w s low = go (eqb w n) refl
   where
+    v : VertexState
+    v = s .vertex
+
     f : ℕ → Bool
     f i = testBit (v .«instance_vbuf_mask») i && not (eqb w (getD (replicate 16 n) i 0))
 

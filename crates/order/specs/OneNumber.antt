@@ -9,7 +9,6 @@ use lib.ListN.{replicate}
 use Rattle.records.specs.declared.check.Rooms.{Rooms}
 use Rattle.records.specs.declared.pipeline.PrivateCapabilities.{PrivateCapabilities}
 use Rattle.records.specs.declared.pipeline.RenderPipeline.{RenderPipeline}
-use Rattle.records.specs.declared.state.VertexState.{VertexState}
 use Rattle.records.specs.declared.state.State.{State}
 use Rattle.slots.specs.Vertex.{stepped}
 use Rattle.slots.specs.Prepare.{working}
@@ -19,9 +18,10 @@ use Rattle.calls.specs.Step.{step}
 use Rattle.order.specs.Book.{Fed, describes, known}
 use Rattle.order.specs.Run.{carried, Recording, record-call}
 
--- ---- the Rust's rule: `active_first_instance` of gles/command.rs, here as sixteen equal numbers
-abbrev pub numbered : ℕ → VertexState → VertexState
-numbered n v = stepped v (v .«dirty_vbuf_mask») (replicate 16 n)
+-- ---- the Rust's rule: one number, `active_first_instance` of gles/command.rs
+-- the state as it is by that rule: every slot has the number
+abbrev pub numbered : ℕ → State → State
+numbered n s = withVertex (stepped (s .vertex) (s .vertex .«dirty_vbuf_mask») (replicate 16 n)) s
 
 -- what a call is to the numbers: a new list or a pass's end, a pipeline, a draw call with its working instance, or neither. An indirect call with count 0 makes no draw
 pub data Turn : Type 0 where
@@ -63,24 +63,26 @@ turnOf caps (draw-indexed-indirect raw offset n) = draws 0 (ltb 0 n)
 turnOf caps (dispatch-workgroups x y z) = passes
 turnOf caps (dispatch-workgroups-indirect raw offset) = passes
 
--- after a draw every slot has its number, whether it was rebound or not
-abbrev pub renumbered : Turn → State → State
-renumbered forgets s = s
-renumbered (pipes p) s = s
-renumbered (draws w made) s = withVertex (numbered w (s .vertex)) s
-renumbered passes s = s
+-- the number after a carried-through call: of a draw call its working instance; a new list and a pass's end set it to 0
+abbrev pub numberAfter : Turn → ℕ → ℕ
+numberAfter forgets n = 0
+numberAfter (pipes p) n = n
+numberAfter (draws w made) n = w
+numberAfter passes n = n
 
-abbrev pub rustState : PrivateCapabilities → Rooms → State → Call → State
-rustState caps rooms s c = cond (carried caps rooms s c) (renumbered (turnOf caps c) (step caps rooms s c .state)) s
+abbrev pub nextNumber : PrivateCapabilities → Rooms → State → ℕ → Call → ℕ
+nextNumber caps rooms s n c = cond (carried caps rooms (numbered n s) c) (numberAfter (turnOf caps c) n) n
 
--- the list by the Rust's rule, and which calls it carries through
-unfoldable pub rust-calls : PrivateCapabilities → Rooms → Recording → List Call → Recording
-rust-calls caps rooms r [] = r
-rust-calls caps rooms r (c ∷ cs) = rust-calls caps rooms (record { state = rustState caps rooms (r .state) c; list = record-call caps rooms r c .list }) cs
+-- the list by that rule, and which calls it carries through: each call finds the one number in every slot
+unfoldable pub rust-calls : PrivateCapabilities → Rooms → Recording → ℕ → List Call → Recording
+rust-calls caps rooms r n [] = r
+rust-calls caps rooms r n (c ∷ cs) =
+    rust-calls caps rooms (record-call caps rooms (record { state = numbered n (r .state); list = r .list }) c) (nextNumber caps rooms (r .state) n c) cs
 
-unfoldable pub rust-fed : PrivateCapabilities → Rooms → State → List Call → List Fed
-rust-fed caps rooms s [] = []
-rust-fed caps rooms s (c ∷ cs) = record { call = c; accepted = carried caps rooms s c } ∷ rust-fed caps rooms (rustState caps rooms s c) cs
+unfoldable pub rust-fed : PrivateCapabilities → Rooms → State → ℕ → List Call → List Fed
+rust-fed caps rooms s n [] = []
+rust-fed caps rooms s n (c ∷ cs) =
+    record { call = c; accepted = carried caps rooms (numbered n s) c } ∷ rust-fed caps rooms (step caps rooms (numbered n s) c .state) (nextNumber caps rooms s n c) cs
 
 -- ---- where it is the same list
 -- the last pipeline of the pass

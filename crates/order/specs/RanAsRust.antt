@@ -13,14 +13,14 @@ use Rattle.calls.specs.Call.{Call, begin-encoding}
 use Rattle.calls.specs.Did.{Runs, roomsOf, Did}
 use Rattle.order.specs.Run.{carried, record-calls, fed}
 use Rattle.order.specs.Ran.{Ran, commandsOf, answers, answers-are, ran-records, Begun, begun-run}
-use Rattle.order.specs.OneNumber.{rust-calls, rust-fed}
+use Rattle.order.specs.OneNumber.{numbered, rust-calls, rust-fed}
 use Rattle.order.specs.AsRust.{EvenWhere, Twins, started, all-steps}
 
 pub as-rust-of-run : (caps : PrivateCapabilities) (s₀ s′ : State) (r₀ r r′ : Runs) (a : Answer) (calls : List Call)
     → Did caps s₀ r₀ begin-encoding a r → a .outcome ≡ Done → (R : Ran caps (a .state) r calls s′ r′)
     → EvenWhere caps none (answers R)
-    → (commandsOf s′ r′ ≡ rust-calls caps (roomsOf r) (record { state = a .state; list = [] }) calls .list)
-    × (answers R ≡ rust-fed caps (roomsOf r) (a .state) calls)
+    → (commandsOf s′ r′ ≡ rust-calls caps (roomsOf r) (record { state = a .state; list = [] }) 0 calls .list)
+    × (answers R ≡ rust-fed caps (roomsOf r) (a .state) 0 calls)
 as-rust-of-run caps s₀ s′ r₀ r r′ a calls d e R E = (list ∙ both .0, same ∙ both .1)
   where
     B : Begun caps r a
@@ -32,9 +32,9 @@ as-rust-of-run caps s₀ s′ r₀ r r′ a calls d e R E = (list ∙ both .0, s
     list : commandsOf s′ r′ ≡ record-calls caps (roomsOf r) (record { state = a .state; list = [] }) calls .list
     list = ran-records caps R (B .within) .1 ∙ ap (λ (l : List Command). record-calls caps (roomsOf r) (record { state = a .state; list = l }) calls .list) (B .nothing)
 
-    twins : Twins caps none (a .state) (a .state)
-    twins = subst (λ (x : State). Twins caps none x x) (sym (d .state)) (started caps (roomsOf r₀) s₀ (ap accepted (sym (d .outcome) ∙ e)))
+    twins : Twins caps none (a .state) 0 (numbered 0 (a .state))
+    twins = subst (λ (x : State). Twins caps none x 0 (numbered 0 x)) (sym (d .state)) (started caps (roomsOf r₀) s₀ (ap accepted (sym (d .outcome) ∙ e)))
 
-    both : (record-calls caps (roomsOf r) (record { state = a .state; list = [] }) calls .list ≡ rust-calls caps (roomsOf r) (record { state = a .state; list = [] }) calls .list)
-        × (fed caps (roomsOf r) (a .state) calls ≡ rust-fed caps (roomsOf r) (a .state) calls)
-    both = all-steps caps (roomsOf r) none (a .state) (a .state) [] calls twins (subst (EvenWhere caps none) same E)
+    both : (record-calls caps (roomsOf r) (record { state = a .state; list = [] }) calls .list ≡ rust-calls caps (roomsOf r) (record { state = a .state; list = [] }) 0 calls .list)
+        × (fed caps (roomsOf r) (a .state) calls ≡ rust-fed caps (roomsOf r) (a .state) 0 calls)
+    both = all-steps caps (roomsOf r) none (a .state) (a .state) 0 [] calls twins (subst (EvenWhere caps none) same E)

@@ -40,7 +40,7 @@ abbrev ours : List Call → List Command
 ours calls = record-calls emulated rooms (begun emulated rooms startState) calls .list
 
 abbrev rusts : List Call → List Command
-rusts calls = rust-calls emulated rooms (begun emulated rooms startState) calls .list
+rusts calls = rust-calls emulated rooms (begun emulated rooms startState) 0 calls .list
 
 -- ---- two pipelines that describe slot 0, with strides 8 and 16, in two passes
 abbrev C : RenderPipeline
