@@ -1,5 +1,5 @@
 #!/usr/bin/env python3
-"""bench.py ORACLE [options] [ROW...]: see tools/bench.sh."""
+"""bench.py ORACLE REQUESTED [options] [ROW...]: see tools/bench.sh."""
 import argparse
 import os
 import statistics
@@ -11,7 +11,8 @@ HERE = os.path.dirname(os.path.abspath(__file__))
 RUNS = 60
 # The rows of tools/bench/main.rt.txt, by number; `oracle bench` has the same names.
 NAMES = ["typical", "draw", "draw_instance", "set_vertex_buffer", "set_vertex_buffer+draw", "set_bind_group",
-         "set_render_pipeline_same", "set_render_pipeline", "set_immediates", "draw_indexed", "set_viewport"]
+         "set_render_pipeline_same", "set_render_pipeline", "set_immediates", "draw_indexed", "set_viewport", "immediate_1",
+         "immediate_16", "immediate_192"]
 # label, row, layout, turns of a session, what a turn is
 ROWS = [
     ("typical", "typical", 1, 500, "draw of a typical session"),
@@ -24,6 +25,9 @@ ROWS = [
     ("set_render_pipeline_same", "set_render_pipeline_same", 1, 200, "set_render_pipeline, the same"),
     ("set_render_pipeline", "set_render_pipeline", 1, 200, "set_render_pipeline, another"),
     ("set_immediates", "set_immediates", 1, 200, "set_immediates of 4 words"),
+    ("immediate_1", "immediate_1", 1, 200, "set_immediates of 1 word, 1 descriptor"),
+    ("immediate_16", "immediate_16", 1, 200, "the same, 16 descriptors, 1 of them with the word"),
+    ("immediate_192", "immediate_192", 1, 20, "the same, 192 descriptors, 1 of them with the word"),
     ("draw_indexed", "draw_indexed", 1, 200, "draw_indexed, nothing dirty"),
     ("set_viewport", "set_viewport", 1, 200, "set_viewport"),
     ("growth_500", "typical", 1, 80, "draw of a typical session"),
@@ -54,34 +58,44 @@ def build(folder):
     return program
 
 
+def pipeline(name, program, count):
+    """A pipeline with so many descriptors of a word each, at locations of their own; only the first has word 0."""
+    words = [0, *(1 + k % 63 for k in range(count - 1))]
+    return f"pipe {name} program={program} imm={','.join(f'{k}:2:{4 * w}:4' for k, w in enumerate(words))}\n"
+
+
 class Bench:
-    def __init__(self, oracle, programs, folder):
-        self.oracle, self.programs = oracle, programs
+    def __init__(self, oracle, requested, programs, folder):
+        self.oracle, self.requested, self.programs = oracle, requested, programs
+        pipelines = pipeline("p4", 5, 1) + pipeline("p5", 6, 16) + pipeline("p6", 7, 192)
         self.scripts, self.flat = [], []
         for layout in (0, 1):
             path = os.path.join(folder, f"objects{layout}.txt")
             with open(path, "w") as f:
-                f.write(f"caps layout={layout}\n" + open(os.path.join(HERE, "bench", "objects.txt")).read())
+                f.write(f"caps layout={layout}\n" + pipelines + open(os.path.join(HERE, "bench", "objects.txt")).read())
             self.scripts.append(path)
             self.flat.append(run([oracle, "flat", path]))
 
-    def rust(self, row, *more):
+    def rust(self, row, *more, oracle=None):
         _, name, layout, count, _ = row
-        return run([self.oracle, "bench", name, "--objects", self.scripts[layout], "--count", str(count), *more])
+        return run([oracle or self.oracle, "bench", name, "--objects", self.scripts[layout], "--count", str(count), *more])
 
     def mine(self, program, row, runs, rounds, as_list):
         _, name, layout, count, _ = row
         return run([program], f"{NAMES.index(name)} {count} {runs} {rounds} {as_list}\n" + self.flat[layout])
 
     def commands(self, row):
-        """The commands of a session, which must be the same on all sides."""
-        expected = self.rust(row, "--list")
+        """The commands of a session: those of the published Rust, and of each program, if they are others. A program's list must be that of
+        the published Rust or that of the Rust with the landed requests."""
+        lists = [self.rust(row, "--list", oracle=oracle) for oracle in (self.oracle, self.requested)]
+        counts = [length(lists[0])]
         for program in self.programs:
             got = self.mine(program, row, 1, 1, 1)
-            if expected != got:
-                a, b = next((a, b) for a, b in zip(expected.splitlines() + [""], got.splitlines() + [""]) if a != b)
+            if got not in lists:
+                a, b = next((a, b) for a, b in zip(lists[1].splitlines() + [""], got.splitlines() + [""]) if a != b)
                 stop(f"{row[0]}: the lists differ\n  the Rust: {a}\n  compared: {b}")
-        return sum(line[:1].isdigit() for line in expected.splitlines())
+            counts.append(length(got))
+        return str(counts[0]) if len(set(counts)) == 1 else "/".join(map(str, counts))
 
     def times(self, row, repeats):
         """Nanoseconds a turn: the runs of the Rust, of the Rust with a new list each session, and of each program."""
@@ -95,6 +109,10 @@ class Bench:
             for out, side in zip(made, sides):
                 out += [int(n) / rounds / count for n in side().split()]
         return made
+
+
+def length(printed):
+    return sum(line[:1].isdigit() for line in printed.splitlines())
 
 
 def session_calls(row):
@@ -115,6 +133,7 @@ def shown(values):
 def main():
     parser = argparse.ArgumentParser(prog="bench.sh")
     parser.add_argument("oracle")
+    parser.add_argument("requested")
     parser.add_argument("--repeats", type=int, default=7)
     parser.add_argument("--program")
     parser.add_argument("--before")
@@ -126,7 +145,7 @@ def main():
     with tempfile.TemporaryDirectory() as folder:
         program = args.program or build(folder)
         programs = [args.before, program] if args.before else [program]
-        bench = Bench(args.oracle, programs, folder)
+        bench = Bench(args.oracle, args.requested, programs, folder)
         heads = ["row", "a turn", "turns of a session", "its commands", "Rust", "Rust, fresh", *["before"][:len(programs) - 1], "this", "ratio of medians"]
         print("ns a turn, smallest/median; fresh: the Rust with a new list for each session, which grows")
         print("| " + " | ".join(heads) + " |\n" + "|---" * len(heads) + "|")

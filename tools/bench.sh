@@ -1,6 +1,7 @@
 #!/bin/sh
 # bench.sh [--repeats N] [--program PATH] [--before PATH] [ROW...]: the same calls on the Rust (tools/oracle, as published, release build) and on this library (public
-# calls over lent runs, native at -O3, unproved), in turn, in one run. First both must record the same list; then the
+# calls over lent runs, native at -O3, unproved), in turn, in one run. First the library must record the Rust's list, as published or with the
+# landed requests (request 6 sends less in immediate_16 and immediate_192; their commands are then shown as Rust/this); then the
 # figures: ns a turn of each side and the ratio of the medians. `taskset -c 1 tools/bench.sh` keeps it on one processor.
 #   --repeats N     starts of each program for each row: 7 if not given; a start has 60 runs of 4,000 turns
 #   --program PATH  a program that tools/native/build.py made from tools/bench
@@ -11,5 +12,5 @@ set -eu
 here=$(cd "$(dirname "$0")" && pwd -P)
 command -v cargo >/dev/null || { echo "bench.sh: no cargo: a Rust compiler is needed" >&2; exit 2; }
 target=${CARGO_TARGET_DIR:-$here/oracle/target}
-(cd "$here/oracle" && cargo build -q --offline --release --target-dir "$target/published" --features oracle/published)
-exec python3 "$here/bench.py" "$target/published/release/oracle" "$@"
+"$here/oracle/tools/build.sh" --release
+exec python3 "$here/bench.py" "$target/published/release/oracle" "$target/release/oracle" "$@"

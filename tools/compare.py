@@ -27,6 +27,7 @@ def arguments():
     parser.add_argument("end", metavar="TO", type=int)
     parser.add_argument("--long", action="store_true")
     parser.add_argument("--even", action="store_true")
+    parser.add_argument("--slider", action="store_true")
     parser.add_argument("--calls", type=int)
     which = parser.add_mutually_exclusive_group()
     which.add_argument("--program", default=os.path.join(os.path.dirname(HERE), "target", "bin", "script"))
@@ -53,12 +54,13 @@ def build(args, folder):
 
 def rust(args, folder, first, end):
     """Writes the files flat, out and index of the seeds, by both builds; answers the index: seed, calls, refused, commands."""
-    options = [f"--{name}" for name in ("long", "even") if getattr(args, name)]
+    options = [f"--{name}" for name in ("long", "even", "slider") if getattr(args, name)]
     if args.calls is not None:
         options += ["--calls", str(args.calls)]
-    for build, ending in ((args.oracle, ""), (args.published, ".published")):
+    like = ["--like", os.path.join(folder, "flat")]  # the published build refuses with 7 what the requested one does
+    for build, ending, more in ((args.oracle, "", []), (args.published, ".published", like)):
         files = [os.path.join(folder, name + ending) for name in ("flat", "out", "index")]
-        p = subprocess.run([build, "batch", str(first), str(end), *options, "--flat", files[0], "--out", files[1], "--index", files[2]])
+        p = subprocess.run([build, "batch", str(first), str(end), *options, *more, "--flat", files[0], "--out", files[1], "--index", files[2]])
         if p.returncode:
             stop(f"the oracle{ending} failed on the seeds {first} to {end}")
     return [tuple(map(int, line.split())) for line in open(os.path.join(folder, "index"))]
@@ -151,7 +153,7 @@ def main():
     if differ:
         print(told, file=sys.stderr)
     # a long session has so many passes that nearly every one has a clear after an empty place
-    faults = tally.faults(by_pass=args.long, even=args.even)
+    faults = tally.faults(by_pass=args.long, even=args.even, slider=args.slider)
     for fault in faults:
         print(f"compare: {fault}", file=sys.stderr)
     if differ or faults:

@@ -1,4 +1,4 @@
--- The verdict on a call whose counts are known only where no other condition turns it away, and condition 6 only where 3 does not hold of the state. Assumes nothing.
+-- The verdict on a call whose counts are known only where no other condition turns it away, and condition 6 only where 3 does not hold. Assumes nothing.
 use mathlib.Core.Bool.{Bool, true, false, cond, _||_}
 use mathlib.Core.Path.{_≡_, refl, sym, ap, _∙_}
 use Rattle.records.specs.Outcome.{accepted, smallest, either}
@@ -52,17 +52,21 @@ hidden false false false d e f f′ g k = bad k
 abbrev pub summed : Bool → Conditions → Conditions
 summed t c = record { phase = c .phase; many = c .many; range = c .range; absent = c .absent; kind = c .kind; sum = t; room = c .room }
 
-or-left : (t u : Bool) → t ≡ true → t || u ≡ true
+pub or-left : (t u : Bool) → t ≡ true → t || u ≡ true
 or-left true u k = refl
 or-left false u k = bad k
 
+pub or-right : (t u : Bool) → u ≡ true → t || u ≡ true
+or-right true u k = refl
+or-right false u k = k
+
 module _ (rooms : Rooms) (s : State) (c : Conditions) (phase : Phase) where
-  pub any-sum : (t : Bool) (more : Counts) → stateConditions s rooms .range ≡ true → judged rooms s (summed t c) phase more ≡ judged rooms s c phase more
+  pub any-sum : (t : Bool) (more : Counts) → (stateConditions s rooms .range || c .range) ≡ true → judged rooms s (summed t c) phase more ≡ judged rooms s c phase more
   unfolding smallest
   any-sum t more k =
       let h = stateConditions s rooms in
       hidden (h .phase || c .phase) (h .many || c .many) (h .range || c .range) (h .absent || c .absent) (h .kind || c .kind) (h .sum || t) (h .sum || c .sum)
-      (h .room || (c .room || overRoom (grown (s .progress) phase more) rooms)) (or-left (h .range) (c .range) k)
+      (h .room || (c .room || overRoom (grown (s .progress) phase more) rooms)) k
 
   -- the answer without the counts
   abbrev pub before : Outcome

@@ -1,5 +1,5 @@
 -- The plan of `set_immediates`, as it is worked out, is right. Assumes nothing.
-use Prim.Native.Nat.{ℕ, _+_, _*_, _^_, _<_, _≤_}
+use Prim.Native.Nat.{ℕ, _+_, _*_, _/_, _^_, _<_, _≤_}
 use mathlib.Core.Bool.{Bool, true, false, cond, not, _&&_, _||_}
 use mathlib.Core.List.{List}
 use mathlib.Core.Path.{_≡_, refl, sym, ap, ap₂, _∙_, subst}
@@ -10,13 +10,15 @@ use Rattle.records.specs.Outcome.{accepted}
 use Rattle.records.specs.Check.{some?, badAttribute, badUnits, badDescriptor, badResolve, badMasks, attributesOf, resolvesOf, outOfRange, stateConditions}
 use Rattle.records.specs.declared.check.Rooms.{Rooms}
 use Rattle.records.specs.declared.command.Command.{Command}
+use Rattle.records.specs.declared.command.ImmediateDesc.{ImmediateDesc}
 use Rattle.records.specs.declared.command.Command.the-variants.{PopDebugGroup}
 use Rattle.records.specs.declared.outcome.Conditions.{Conditions}
 use Rattle.records.specs.declared.outcome.Outcome.{Outcome}
 use Rattle.records.specs.declared.state.ImmediateState.{ImmediateState}
 use Rattle.records.specs.declared.state.Progress.{Progress}
 use Rattle.records.specs.declared.state.State.{State}
-use Rattle.bindings.specs.Immediates.{descriptorsOf, immediatesState, immediateCommands, immediateBytes, immediatesOutOfRange, immediatesOver}
+use Rattle.bindings.specs.Immediates.{descriptorsOf, sends, sentDescriptors, immediatesState, immediateCommands, immediateBytes, immediatesOutOfRange, immediatesOver}
+use Rattle.bindings.specs.Shared.{filter-good}
 use Rattle.bindings.specs.Placed.{placesOf, commands-long, over-total}
 use Rattle.pass.specs.Marks.{Lent, counted, overRun}
 use Rattle.calls.specs.declared.judge.Counts.{Counts}
@@ -29,7 +31,7 @@ use Rattle.calls.proofs.Judged.{bad, neither, none-holds, within, fitting}
 use Rattle.calls.proofs.Plans.{put, moved-or-not}
 use Rattle.binding_calls.specs.declared.sending.Worked.{Worked}
 use Rattle.binding_calls.specs.ImmediatePlans.{Right, WorkedOf, ImmediateOf, withWords}
-use Rattle.binding_calls.proofs.ImmediateJudged.{summed, any-sum, before, clear, Found, found}
+use Rattle.binding_calls.proofs.ImmediateJudged.{or-left, or-right, summed, any-sum, before, clear, Found, found}
 
 -- what is taken only where a call is carried through, and equal there
 taken-same : {X : Type 0} (t : Bool) (x y z : X) → (t ≡ true → x ≡ y) → cond t x z ≡ cond t y z
@@ -53,7 +55,8 @@ third false false false d k = bad k
 
 -- the state with the words that a call leaves
 words-next : (t : Bool) (ws : List ℕ) (s : State) (p : Progress)
-    → withImmediates (withWords (cond t ws (s .immediates .words)) (s .immediates)) (withProgress p s) ≡ withProgress p (cond t (withImmediates (withWords ws (s .immediates)) s) s)
+    → withImmediates (withWords (cond t ws (s .immediates .words)) (t || s .immediates .sent) (s .immediates)) (withProgress p s)
+    ≡ withProgress p (cond t (withImmediates (withWords ws true (s .immediates)) s) s)
 words-next true ws s p = refl
 words-next false ws s p = refl
 
@@ -63,6 +66,9 @@ module _ (room bytes : ℕ) (s : State) (offset : ℕ) (ws : Lent) (w : Worked) 
 
   abbrev m : Meaning
   m = setImmediates s offset ws
+
+  abbrev sent-here : List ImmediateDesc
+  sent-here = sentDescriptors i offset (ws .count)
 
   abbrev rooms : Rooms
   rooms = byteRooms room bytes
@@ -75,7 +81,7 @@ module _ (room bytes : ℕ) (s : State) (offset : ℕ) (ws : Lent) (w : Worked) 
         range = immediatesOutOfRange offset (ws .count);
         absent = false;
         kind = false;
-        sum = immediatesOver (descriptorsOf i) (s .progress .bytes);
+        sum = immediatesOver sent-here (s .progress .bytes);
         room = overRun ws;
       }
 
@@ -98,14 +104,20 @@ module _ (room bytes : ℕ) (s : State) (offset : ℕ) (ws : Lent) (w : Worked) 
       let behind = neither (some? badAttribute (attributesOf s)) (units || (some? badDescriptor (descriptorsOf i) || rest)) held .1 in
       neither (some? badDescriptor (descriptorsOf i)) rest (neither units (some? badDescriptor (descriptorsOf i) || rest) behind .1) .0
 
+  in-range : accepted (before rooms s asks (s .progress .phase)) ≡ true → asks .range ≡ false
+  in-range k = neither (stateConditions s rooms .range) (asks .range) (none-holds _ k .range) .1
+
   all-right : accepted (before rooms s asks (s .progress .phase)) ≡ true → Right (ws .run) (ws .count) i offset (s .progress .bytes) w
   all-right k =
       let held = none-holds _ k in
       let u = within (s .progress) rooms (neither (stateConditions s rooms .room) (asks .room) (held .room) .0) in
-      work .right (neither (stateConditions s rooms .range) (asks .range) (held .range) .1) (good k) (u .bytes-limit)
+      work .right (in-range k) (good k) (u .bytes-limit)
+
+  many-is : accepted (before rooms s asks (s .progress .phase)) ≡ true → w .n ≡ length (m .commands)
+  many-is k = work .many (in-range k) ∙ sym (commands-long sent-here (s .progress .bytes))
 
   known : accepted (before rooms s asks (s .progress .phase)) ≡ true → more ≡ true-more
-  known k = λ j. record { commands = work .many j; bytes = all-right k .size j; queries = 0 }
+  known k = λ j. record { commands = many-is k j; bytes = all-right k .size j; queries = 0 }
 
   carried : accepted outcome ≡ true → Right (ws .run) (ws .count) i offset (s .progress .bytes) w
   carried h = all-right (clear rooms s asks (s .progress .phase) true-more h)
@@ -114,20 +126,26 @@ module _ (room bytes : ℕ) (s : State) (offset : ℕ) (ws : Lent) (w : Worked) 
   abbrev past : Bool
   past = ltb 0 (w .n) && leb (2 ^ 32) (s .progress .bytes + w .size)
 
-  past-is : some? badDescriptor (descriptorsOf i) ≡ false → past ≡ asks .sum
-  past-is g =
-      ap₂ (λ (n k : ℕ). ltb 0 n && leb (2 ^ 32) (s .progress .bytes + k)) (work .many ∙ commands-long (descriptorsOf i) (s .progress .bytes)) (work .sized g)
-      ∙ sym (over-total (descriptorsOf i) (s .progress .bytes))
+  past-is : asks .range ≡ false → some? badDescriptor (descriptorsOf i) ≡ false → past ≡ asks .sum
+  past-is r g =
+      ap₂ (λ (n k : ℕ). ltb 0 n && leb (2 ^ 32) (s .progress .bytes + k)) (work .many r) (work .sized r g)
+      ∙ sym (over-total sent-here (s .progress .bytes))
 
   same-judged : judged rooms s (summed past asks) (s .progress .phase) more ≡ judged rooms s asks (s .progress .phase) more
-  same-judged = go (some? badDescriptor (descriptorsOf i)) refl
+  same-judged = go (some? badDescriptor (descriptorsOf i)) (asks .range) refl refl
     where
-      go : (t : Bool) → some? badDescriptor (descriptorsOf i) ≡ t → judged rooms s (summed past asks) (s .progress .phase) more ≡ judged rooms s asks (s .progress .phase) more
-      go true g =
-          let units : Bool = badUnits (s .bind .sampled) 0 (s .bind .«texture_slots») in
-          let rest : Bool = some? badResolve (resolvesOf s) || badMasks s in
-          any-sum rooms s asks (s .progress .phase) past more (third (some? badAttribute (attributesOf s)) units (some? badDescriptor (descriptorsOf i)) rest g)
-      go false g = ap (λ (t : Bool). judged rooms s (summed t asks) (s .progress .phase) more) (past-is g)
+      units : Bool
+      units = badUnits (s .bind .sampled) 0 (s .bind .«texture_slots»)
+
+      rest : Bool
+      rest = some? badResolve (resolvesOf s) || badMasks s
+
+      go : (t r : Bool) → some? badDescriptor (descriptorsOf i) ≡ t → asks .range ≡ r
+          → judged rooms s (summed past asks) (s .progress .phase) more ≡ judged rooms s asks (s .progress .phase) more
+      go true r g e =
+          any-sum rooms s asks (s .progress .phase) past more (or-left (outOfRange s) (asks .range) (third (some? badAttribute (attributesOf s)) units (some? badDescriptor (descriptorsOf i)) rest g))
+      go false true g e = any-sum rooms s asks (s .progress .phase) past more (or-right (outOfRange s) (asks .range) e)
+      go false false g e = ap (λ (t : Bool). judged rooms s (summed t asks) (s .progress .phase) more) (past-is e g)
 
   -- the verdict as the counts and condition 6 that are worked out have it
   pub verdict : {o : Outcome} {ok : Bool} {progress : Progress}
@@ -146,11 +164,12 @@ module _ (room bytes : ℕ) (s : State) (offset : ℕ) (ws : Lent) (w : Worked) 
     abbrev new : ImmediateState
     new = immediatesState i offset (counted ws)
 
-    next-is : (now : List ℕ) → now ≡ cond ok (w .state .words) (i .words)
-        → withImmediates (withWords now i) (withProgress progress s) ≡ taken outcome (withProgress (grown (s .progress) (s .progress .phase) true-more) (withImmediates new s)) s
-    next-is now c =
-        ap (λ (y : List ℕ). withImmediates (withWords y i) (withProgress progress s))
-        (c ∙ ap (λ (t : Bool). cond t (w .state .words) (i .words)) (k .sure) ∙ taken-same (accepted outcome) (w .state .words) (new .words) (i .words) (λ h. ap (λ (x : ImmediateState). x .words) (carried h .state)))
+    next-is : (now : List ℕ) (flag : Bool) → now ≡ cond ok (w .state .words) (i .words) → flag ≡ (ok || i .sent)
+        → withImmediates (withWords now flag i) (withProgress progress s) ≡ taken outcome (withProgress (grown (s .progress) (s .progress .phase) true-more) (withImmediates new s)) s
+    next-is now flag c f =
+        ap₂ (λ (y : List ℕ) (t : Bool). withImmediates (withWords y t i) (withProgress progress s))
+        (c ∙ ap (λ (t : Bool). cond t (w .state .words) (i .words)) (k .sure) ∙ taken-same (accepted outcome) (w .state .words) (new .words) (i .words) (λ h. carried h .words))
+        (f ∙ ap (λ (t : Bool). t || i .sent) (k .sure))
         ∙ words-next (accepted outcome) (new .words) s progress
         ∙ ap (λ (q : Progress). withProgress q (taken outcome (withImmediates new s) s)) (k .left)
         ∙ moved-or-not outcome s (withImmediates new s) (grown (s .progress) (s .progress .phase) true-more)
@@ -163,33 +182,36 @@ module _ (room bytes : ℕ) (s : State) (offset : ℕ) (ws : Lent) (w : Worked) 
       put-here : place ≡ s .progress .bytes
       put-here = here ∙ ap (λ (t : Bool). cond t (s .progress .bytes) 0) (k .sure ∙ h)
 
-      same-commands : immediateCommands (descriptorsOf (w .state)) place ≡ immediateCommands (descriptorsOf i) (s .progress .bytes)
-      same-commands = ap (λ (x : ImmediateState). immediateCommands (descriptorsOf x) place) (carried h .state) ∙ ap (immediateCommands (descriptorsOf i)) put-here
+      same-commands : immediateCommands (descriptorsOf (w .state)) place ≡ immediateCommands sent-here (s .progress .bytes)
+      same-commands = ap₂ immediateCommands (carried h .descriptors) put-here
 
       same-places : take (length (descriptorsOf (w .state))) (w .placed .at) ≡ placesOf (descriptorsOf (w .state)) place
       same-places =
-          ap (λ (x : ImmediateState). take (length (descriptorsOf x)) (w .placed .at)) (carried h .state)
+          ap (λ (ds : List ImmediateDesc). take (length ds) (w .placed .at)) (carried h .descriptors)
           ∙ carried h .places
-          ∙ sym (ap (λ (x : ImmediateState). placesOf (descriptorsOf x) place) (carried h .state) ∙ ap (placesOf (descriptorsOf i)) put-here)
+          ∙ sym (ap₂ placesOf (carried h .descriptors) put-here)
 
     same-bytes : accepted outcome ≡ true → immediateBytes (w .state .words) (descriptorsOf (w .state)) ≡ m .bytes
-    same-bytes h = ap (λ (x : ImmediateState). immediateBytes (x .words) (descriptorsOf x)) (carried h .state)
+    same-bytes h = ap₂ immediateBytes (carried h .words) (carried h .descriptors)
 
     good-sent : accepted outcome ≡ true → some? badDescriptor (descriptorsOf (w .state)) ≡ false
-    good-sent h = ap (λ (x : ImmediateState). some? badDescriptor (descriptorsOf x)) (carried h .state) ∙ good (clear rooms s asks (s .progress .phase) true-more h)
+    good-sent h =
+        ap (some? badDescriptor) (carried h .descriptors)
+        ∙ filter-good (sends (i .sent) (offset / 4) (offset / 4 + ws .count)) (descriptorsOf i) (good (clear rooms s asks (s .progress .phase) true-more h))
 
-    pub planned : (now : List ℕ) (at n place size : ℕ) → now ≡ cond ok (w .state .words) (i .words)
+    pub planned : (now : List ℕ) (flag : Bool) (at n place size : ℕ) → now ≡ cond ok (w .state .words) (i .words) → flag ≡ (ok || i .sent)
         → (at ≡ cond ok (s .progress .commands) 0) × (n ≡ cond ok (w .n) 0) → (place ≡ cond ok (s .progress .bytes) 0) × (size ≡ cond ok (w .size) 0)
-        → ImmediateOf room bytes s m (record { progress = progress; words = now; batch = record { at = at; n = n; put = place; size = size; state = w .state; placed = w .placed }; outcome = o })
+        → ImmediateOf room bytes s m
+        (record { progress = progress; words = now; batch = record { at = at; n = n; put = place; size = size; state = w .state; placed = w .placed }; outcome = o; sent = flag })
     unfolding outcomeOf
-    planned now at n place size c spot byte-spot =
+    planned now flag at n place size c f spot byte-spot =
         let many : n ≡ cond (accepted outcome) (w .n) 0 = spot .1 ∙ sure-is (w .n) 0 in
         let long : size ≡ cond (accepted outcome) (w .size) 0 = byte-spot .1 ∙ sure-is (w .size) 0 in
         record {
-          answered = (k .said, next-is now c);
+          answered = (k .said, next-is now flag c f);
           laid =
               put outcome room (s .progress .commands) (m .commands) PopDebugGroup at n _ (λ h. fitting rooms s asks (s .progress .phase) true-more h .commands-fit)
-              (spot .0 ∙ sure-is (s .progress .commands) 0) (many ∙ ap (λ (x : ℕ). cond (accepted outcome) x 0) (work .many))
+              (spot .0 ∙ sure-is (s .progress .commands) 0) (many ∙ taken-same (accepted outcome) (w .n) (length (m .commands)) 0 (λ h. many-is (clear rooms s asks (s .progress .phase) true-more h)))
               (λ h j l. ap (λ (xs : List Command). getD xs j PopDebugGroup) (same-commands place (byte-spot .0) h));
           put =
               put outcome bytes (s .progress .bytes) (m .bytes) 0 place size _ (λ h. fitting rooms s asks (s .progress .phase) true-more h .bytes-fit)
@@ -198,7 +220,8 @@ module _ (room bytes : ℕ) (s : State) (offset : ℕ) (ws : Lent) (w : Worked) 
           commands =
               λ j l.
               let t = one-taken (accepted outcome) n (w .n) j many l in
-              let e : length (immediateCommands (descriptorsOf (w .state)) place) ≡ w .n = ap length (same-commands place (byte-spot .0) (t .0)) ∙ sym (work .many) in
+              let e : length (immediateCommands (descriptorsOf (w .state)) place) ≡ w .n =
+              ap length (same-commands place (byte-spot .0) (t .0)) ∙ sym (many-is (clear rooms s asks (s .progress .phase) true-more (t .0))) in
               let f : w .n ≤ 192 = work .few in
               let g : j < w .n = t .1 in
               (omega arith, omega arith, same-places place (byte-spot .0) (t .0));

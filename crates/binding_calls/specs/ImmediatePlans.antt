@@ -1,7 +1,7 @@
 -- A plan of `set_immediates`: its commands, its marker bytes, and where they go. Definitions only.
 use Prim.Native.Nat.{ℕ, _+_, _*_, _<_, _≤_}
 use mathlib.Core.Path.{_≡_}
-use mathlib.Core.Bool.{false}
+use mathlib.Core.Bool.{Bool, false}
 use mathlib.Core.List.{List}
 use lib.ListN.{length, getD, take}
 use Rattle.walks.specs.Fill.{filled}
@@ -11,7 +11,7 @@ use Rattle.records.specs.declared.command.Command.the-variants.{PopDebugGroup}
 use Rattle.records.specs.declared.state.Answer.{Answer}
 use Rattle.records.specs.declared.state.ImmediateState.{ImmediateState}
 use Rattle.records.specs.declared.state.State.{State}
-use Rattle.bindings.specs.Immediates.{descriptorsOf, immediatesState, immediateCommands, immediateBytes, immediatesOutOfRange}
+use Rattle.bindings.specs.Immediates.{descriptorsOf, sentDescriptors, immediatesState, immediateCommands, immediateBytes, immediatesOutOfRange}
 use Rattle.bindings.specs.Placed.{placesOf, sizeOf}
 use Rattle.calls.specs.Meaning.{Meaning}
 use Rattle.calls.specs.Parts.{withImmediates, withProgress}
@@ -21,19 +21,20 @@ use Rattle.binding_calls.specs.declared.sending.Worked.{Worked}
 use Rattle.binding_calls.specs.declared.sending.Sending.{Sending}
 use Rattle.binding_calls.specs.declared.sending.ImmediatePlan.{ImmediatePlan}
 
--- the state with its new words, the places of the descriptors' bytes, and how many bytes there are
+-- the descriptors that are sent with the new words, the places of their bytes, and how many bytes there are
 pub record Right (ws : List ℕ) (count : ℕ) (i : ImmediateState) (offset used : ℕ) (w : Worked) : Type 0 where
-  pub state : w .state ≡ immediatesState i offset (take count ws)
-  pub places : take (length (descriptorsOf i)) (w .placed .at) ≡ placesOf (descriptorsOf i) used
-  pub size : w .size ≡ length (immediateBytes (immediatesState i offset (take count ws) .words) (descriptorsOf i))
+  pub descriptors : descriptorsOf (w .state) ≡ sentDescriptors i offset count
+  pub words : w .state .words ≡ immediatesState i offset (take count ws) .words
+  pub places : take (length (sentDescriptors i offset count)) (w .placed .at) ≡ placesOf (sentDescriptors i offset count) used
+  pub size : w .size ≡ length (immediateBytes (immediatesState i offset (take count ws) .words) (sentDescriptors i offset count))
 
 -- what a call that writes so many words sends, with so many bytes used before it: right where condition 3 holds neither of the call nor of a descriptor, and the used bytes are within their limit;
--- of good descriptors the bytes are as many as their sizes say, whatever the call
+-- whatever is used, a call within its range has a command for each descriptor that it sends, and of good descriptors as many bytes as their sizes say
 pub record WorkedOf (ws : List ℕ) (count : ℕ) (i : ImmediateState) (offset used : ℕ) (w : Worked) : Type 0 where
-  pub many : w .n ≡ length (immediateCommands (descriptorsOf i) used)
+  pub many : immediatesOutOfRange offset count ≡ false → w .n ≡ length (sentDescriptors i offset count)
   pub few : w .n ≤ 192
   pub small : w .size ≤ 192 * 256
-  pub sized : some? badDescriptor (descriptorsOf i) ≡ false → w .size ≡ sizeOf (descriptorsOf i)
+  pub sized : immediatesOutOfRange offset count ≡ false → some? badDescriptor (descriptorsOf i) ≡ false → w .size ≡ sizeOf (sentDescriptors i offset count)
   pub right : immediatesOutOfRange offset count ≡ false → some? badDescriptor (descriptorsOf i) ≡ false → used ≤ 65536 → Right ws count i offset used w
 
 -- the commands and the bytes of a batch, and each by its place
@@ -66,13 +67,13 @@ BytesFit p room = (p .batch .put + p .batch .size ≤ room) × ((i : ℕ) → i 
 abbrev pub bytesSent : ImmediatePlan → List ℕ → List ℕ
 bytesSent p bytes = filled (byteAt (p .batch)) bytes (p .batch .put) (p .batch .size)
 
--- the immediates with other words
-abbrev pub withWords : List ℕ → ImmediateState → ImmediateState
-withWords ws i = record { descs = i .descs; count = i .count; words = ws }
+-- the immediates with other words and flag
+abbrev pub withWords : List ℕ → Bool → ImmediateState → ImmediateState
+withWords ws t i = record { descs = i .descs; count = i .count; words = ws; sent = t }
 
 -- the state that a plan leaves
 abbrev pub immediateNext : ImmediatePlan → State → State
-immediateNext p s = withImmediates (withWords (p .words) (s .immediates)) (withProgress (p .progress) s)
+immediateNext p s = withImmediates (withWords (p .words) (p .sent) (s .immediates)) (withProgress (p .progress) s)
 
 -- right for a call with this meaning, with so much room in the list and in the marker bytes
 pub record ImmediateOf (room bytes : ℕ) (s : State) (m : Meaning) (p : ImmediatePlan) : Type 0 where

@@ -10,7 +10,8 @@ use records::pipeline::PrivateCapabilities;
 use records::state::Answer;
 use records::state::State;
 
-// Writes `count` words from the byte `offset` on, and sends every descriptor's words.
+// Writes `count` words from the byte `offset` on, and sends the words of each descriptor that shares
+// a written word or was not sent since the last pipeline call.
 pub fn set_immediates(
     list: &mut [Record],
     bytes: &mut [u8],

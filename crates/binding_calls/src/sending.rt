@@ -15,6 +15,7 @@ use bindings::immediate_command::place_descriptors;
 use bindings::immediates::byte_at;
 use bindings::immediates::immediates_after;
 use bindings::immediates::out_of_range;
+use bindings::immediates::picked;
 use calls::judge::Counts;
 use calls::judge::byte_rooms;
 use calls::judge::judge;
@@ -31,7 +32,6 @@ use records::command::Command;
 use records::command::Record;
 use records::limits::MAX_BYTES;
 use records::limits::MAX_IMMEDIATES;
-use records::limits::MAX_IMMEDIATES_COMMANDS;
 use records::outcome::Outcome;
 use records::pipeline::PrivateCapabilities;
 use records::state::Answer;
@@ -39,8 +39,8 @@ use records::state::ImmediateState;
 use records::state::Progress;
 use records::state::State;
 
-// What a call sends: the state with its words written, the places of the descriptors' bytes, how
-// many commands and bytes there are.
+// What a call sends: the descriptors that it sends with the new words, the places of their bytes,
+// how many commands and bytes there are.
 pub struct Worked {
     pub state: ImmediateState,
     pub placed: Placed,
@@ -58,12 +58,13 @@ pub struct Sending {
     pub placed: Placed,
 }
 
-// `words` are those that the call leaves.
+// `words` are those that the call leaves, `sent` the flag.
 pub struct ImmediatePlan {
     pub progress: Progress,
     pub words: [u32; MAX_IMMEDIATES],
     pub batch: Sending,
     pub outcome: Outcome,
+    pub sent: bool,
 }
 
 pub fn sent_command(batch: Sending, i: usize) -> Command
@@ -112,6 +113,7 @@ pub fn sent_answer(plan: ImmediatePlan, s: State) -> Answer
     let words = plan.words;
     let mut immediates = s.immediates;
     immediates.words = words;
+    immediates.sent = plan.sent;
     let moved = with_progress(s, plan.progress);
     let state = with_immediates(moved, immediates);
     Answer { outcome, state }
@@ -163,11 +165,16 @@ fn work_out(words: &[u32], count: usize, i: ImmediateState, offset: u32, used: u
 {
     let after = immediates_after(words, count, i, offset);
     let first = within(used, MAX_BYTES);
-    let placed = place_descriptors(i, first as u32);
-    let n = within(i.count, MAX_IMMEDIATES_COMMANDS);
+    let start = offset / 4;
+    let end = start + (within(count, 65) as u32);
+    let mut state = picked(i, start, end);
+    let placed = place_descriptors(state, first as u32);
+    let n = state.count;
     let size = placed.total as usize;
+    let new = after.words;
+    state.words = new;
     Worked {
-        state: after,
+        state,
         placed,
         n,
         size,
@@ -231,6 +238,7 @@ pub fn plan_set_immediates(
     let new = state.words;
     let kept = old.words;
     let words = taken_words(v.ok, new, kept);
+    let sent = v.ok | old.sent;
     ImmediatePlan {
         progress,
         words,
@@ -243,5 +251,6 @@ pub fn plan_set_immediates(
             placed,
         },
         outcome,
+        sent,
     }
 }

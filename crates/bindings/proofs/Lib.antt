@@ -4,3 +4,4 @@ pub mod Long
 pub mod Placing
 pub mod Sweeping
 pub mod Whole
+pub mod Picking

@@ -1,6 +1,6 @@
 -- `set_immediates`: document 01, "Bindings and immediates". Definitions only.
 use Prim.Native.Nat.{ℕ, zero, suc, _+_, _*_, _/_, _%_, _^_}
-use mathlib.Core.Bool.{Bool, true, false, not, _||_}
+use mathlib.Core.Bool.{Bool, true, false, cond, not, _&&_, _||_}
 use mathlib.Core.List.{List, [], _∷_, _++_}
 use lib.Dec.{ltb, leb, eqb}
 use lib.ListN.{take, drop, length}
@@ -18,7 +18,7 @@ descriptorsOf i = take (i .count) (i .descs)
 
 -- the state's words after the call
 abbrev pub immediatesState : ImmediateState → ℕ → List ℕ → ImmediateState
-immediatesState i offset ws = record { descs = i .descs; count = i .count; words = overwritten (i .words) (offset / 4) ws }
+immediatesState i offset ws = record { descs = i .descs; count = i .count; words = overwritten (i .words) (offset / 4) ws; sent = true }
 
 -- "Words go to the marker bytes little-endian"
 abbrev pub littleEndian : ℕ → List ℕ
@@ -32,11 +32,28 @@ bytesOf (w ∷ ws) = littleEndian w ++ bytesOf ws
 abbrev pub wordsOf : List ℕ → ImmediateDesc → List ℕ
 wordsOf ws d = take (d .«size_bytes» / 4) (drop (d .offset / 4) ws)
 
--- whether a written range of words and a descriptor's share one, as the Rust tests it
+-- whether a written range of words and a descriptor's share one, as the Rust tests it: always true (Overlap.antt)
 abbrev pub overlaps : ℕ → ℕ → ImmediateDesc → Bool
 overlaps start end d = ltb start (d .offset / 4 + d .«size_bytes» / 4) || leb (d .offset / 4) end
 
--- "`set_immediates` sends every descriptor", each with its place in the marker bytes
+-- document 02, request 6, "only for a shared word": the words from start to before end and the descriptor's share one
+abbrev pub sharesWord : ℕ → ℕ → ImmediateDesc → Bool
+sharesWord start end d =
+    ltb start end && ltb (d .offset / 4) (d .offset / 4 + d .«size_bytes» / 4) && ltb start (d .offset / 4 + d .«size_bytes» / 4) && ltb (d .offset / 4) end
+
+-- "exactly the descriptors that share a written word or were not sent since the last pipeline call"
+abbrev pub sends : Bool → ℕ → ℕ → ImmediateDesc → Bool
+sends sent start end d = sharesWord start end d || not sent
+
+unfoldable pub filter : (ImmediateDesc → Bool) → List ImmediateDesc → List ImmediateDesc
+filter f [] = []
+filter f (d ∷ ds) = cond (f d) (d ∷ filter f ds) (filter f ds)
+
+-- the descriptors that a call sends which writes so many words from the byte offset on
+abbrev pub sentDescriptors : ImmediateState → ℕ → ℕ → List ImmediateDesc
+sentDescriptors i offset count = filter (sends (i .sent) (offset / 4) (offset / 4 + count)) (descriptorsOf i)
+
+-- the commands of the descriptors that are sent, each with its place in the marker bytes
 unfoldable pub immediateCommands : List ImmediateDesc → ℕ → List Command
 immediateCommands [] at = []
 immediateCommands (d ∷ ds) at = SetImmediates d at ∷ immediateCommands ds (at + d .«size_bytes»)

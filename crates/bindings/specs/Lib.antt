@@ -6,3 +6,4 @@ pub mod Or
 pub mod Sweep
 pub mod Placed
 pub mod Witness
+pub mod Shared

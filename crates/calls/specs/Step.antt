@@ -36,7 +36,7 @@ use Rattle.records.specs.declared.state.State.{State}
 use Rattle.slots.specs.Vertex.{attributesOf}
 use Rattle.slots.specs.Prepare.{working, prepared, preparedOver}
 use Rattle.bindings.specs.Group.{entriesOf, groupAt, groupState, bindGroupCommands, longGroup, entryOutOfRange, offsetMissing, entryWrongKind, groupOver}
-use Rattle.bindings.specs.Immediates.{descriptorsOf, immediatesState, immediateCommands, immediateBytes, immediatesOutOfRange, immediatesOver}
+use Rattle.bindings.specs.Immediates.{sentDescriptors, immediatesState, immediateCommands, immediateBytes, immediatesOutOfRange, immediatesOver}
 use Rattle.pipeline.specs.Inner.{innerBind, innerCommands, innerImmediates, innerTooMany, innerOutOfRange}
 use Rattle.pipeline.specs.Vertex.{pipelineVertex, vertexCommands, unsetAttribute, vertexTooMany, vertexOutOfRange, vertexAbsent, vertexTwice}
 use Rattle.pipeline.specs.Fixed.{fixedCommands, pipelineFixed, stencilFuncs, fixedTooMany}
@@ -195,9 +195,9 @@ abbrev pub setImmediates : State → ℕ → Lent → Meaning
 setImmediates s offset ws =
     record {
       allowed = inPass;
-      asks = refusing false (immediatesOutOfRange offset (ws .count)) false false (immediatesOver (descriptorsOf (s .immediates)) (s .progress .bytes)) (overRun ws);
-      commands = immediateCommands (descriptorsOf (s .immediates)) (s .progress .bytes);
-      bytes = immediateBytes (immediatesState (s .immediates) offset (counted ws) .words) (descriptorsOf (s .immediates));
+      asks = refusing false (immediatesOutOfRange offset (ws .count)) false false (immediatesOver (sentDescriptors (s .immediates) offset (ws .count)) (s .progress .bytes)) (overRun ws);
+      commands = immediateCommands (sentDescriptors (s .immediates) offset (ws .count)) (s .progress .bytes);
+      bytes = immediateBytes (immediatesState (s .immediates) offset (counted ws) .words) (sentDescriptors (s .immediates) offset (ws .count));
       queries = [];
       after = withImmediates (immediatesState (s .immediates) offset (counted ws)) s;
       phase = s .progress .phase;

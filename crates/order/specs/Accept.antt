@@ -22,7 +22,7 @@ use Rattle.records.specs.declared.state.Phase.the-variants.{Closed, Open, Rende
 use Rattle.records.specs.declared.state.State.{State}
 use Rattle.slots.specs.Prepare.{working, prepared}
 use Rattle.bindings.specs.Group.{Entry, zipped, noGroup, groupAt, entriesOf, entryOutOfRange, offsetMissing}
-use Rattle.bindings.specs.Immediates.{descriptorsOf, immediatesState}
+use Rattle.bindings.specs.Immediates.{sentDescriptors, immediatesState}
 use Rattle.pipeline.specs.Inner.{innerOutOfRange}
 use Rattle.pipeline.specs.Vertex.{vertexOutOfRange}
 use Rattle.pass.specs.Marks.{counted, beginTimestamp, pushLabel, popLabel, timestamp}
@@ -157,7 +157,9 @@ module _ (caps : PrivateCapabilities) (rooms : Rooms) (s : State) (m : Machine) 
       ∙ sym (group-is (entriesIn l i x) (take (g .«content_count») (g .contents)) (counted os) (b .bound)) in
       subst (λ (y : Bound). Tied caps (withProgress (progressAfter q) (q .after)) (play m (q .commands)) (withBound y b)) named
       (by-bind-group caps s m b T xs (counted os) (or-right (leb (l .«group_count») i) (some? entryOutOfRange xs) r) _ _ _)
-  accepts (set-immediates offset ws) e P = idles caps s m b T (meaning caps s (set-immediates offset ws) .commands) (idle-immediates (descriptorsOf (s .immediates)) (s .progress .bytes)) (s .pass) (immediatesState (s .immediates) offset (counted ws)) _ _ _
+  accepts (set-immediates offset ws) e P =
+      idles caps s m b T (meaning caps s (set-immediates offset ws) .commands) (idle-immediates (sentDescriptors (s .immediates) offset (ws .count)) (s .progress .bytes)) (s .pass)
+      (immediatesState (s .immediates) offset (counted ws)) _ _ _
   accepts (set-render-pipeline p) e P =
       let q = meaning caps s (set-render-pipeline p) in
       let r = in-range rooms s q e in

@@ -38,7 +38,7 @@ use Rattle.records.specs.declared.pipeline.PrivateCapabilities.{PrivateCapabili
 use Rattle.records.specs.declared.pipeline.RenderPipeline.{RenderPipeline}
 use Rattle.slots.specs.Prepare.{bufferCommands, attributeCommands, sentOf}
 use Rattle.bindings.specs.Group.{zipped, groupCommands, groupState, texturesNamed, samplersNamed, offsetsUsed, groupOver}
-use Rattle.bindings.specs.Immediates.{bytesOf, immediateCommands, immediateBytes, immediatesOver}
+use Rattle.bindings.specs.Immediates.{bytesOf, filter, immediateCommands, immediateBytes, immediatesOver}
 use Rattle.bindings.specs.Units.{samplerCommands}
 use Rattle.pipeline.specs.Inner.{changedUnits}
 use Rattle.pipeline.specs.Fixed.{sameTargets, allSame, eachTarget}
@@ -295,7 +295,7 @@ cases =
 -- every row says what the definitions give
 pub all-cases : map seen cases ≡ map said cases
 unfolding all-accepted record-calls fed outcomeOf smallest some? badUnits among twice testBit bitAt setBit without maskOf placesFrom maskBy tabulate
-    clampTo convertTo ofBits round bufferCommands attributeCommands sentOf bytesOf immediateCommands immediateBytes immediatesOver samplerCommands changedUnits
+    clampTo convertTo ofBits round bufferCommands attributeCommands sentOf bytesOf filter immediateCommands immediateBytes immediatesOver samplerCommands changedUnits
     zipped groupCommands groupState texturesNamed samplersNamed offsetsUsed groupOver
     sameTargets allSame eachTarget beginRenderCommands attachColors resolvesFrom invalidations clearColors indirectCommands
 all-cases = refl

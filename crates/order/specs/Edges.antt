@@ -26,7 +26,7 @@ use Rattle.records.specs.declared.pass.OptionView.the-variants as view
 use Rattle.records.specs.declared.state.IndexFormat.the-variants.{Uint16}
 use Rattle.slots.specs.Prepare.{bufferCommands, attributeCommands, sentOf}
 use Rattle.bindings.specs.Group.{noGroup, zipped, groupCommands, groupState, texturesNamed, samplersNamed, offsetsUsed, groupOver}
-use Rattle.bindings.specs.Immediates.{bytesOf, immediateCommands, immediateBytes, immediatesOver}
+use Rattle.bindings.specs.Immediates.{bytesOf, filter, immediateCommands, immediateBytes, immediatesOver}
 use Rattle.bindings.specs.Units.{samplerCommands}
 use Rattle.pipeline.specs.Inner.{changedUnits}
 use Rattle.pipeline.specs.Fixed.{sameTargets, allSame, eachTarget}
@@ -407,7 +407,7 @@ edges =
 -- every row says what the definitions give
 pub all-edges : map seen edges ≡ map said edges
 unfolding all-accepted record-calls fed outcomeOf smallest some? badUnits among twice testBit bitAt setBit without maskOf placesFrom maskBy tabulate
-    clampTo convertTo ofBits round bufferCommands attributeCommands sentOf bytesOf immediateCommands immediateBytes immediatesOver samplerCommands changedUnits
+    clampTo convertTo ofBits round bufferCommands attributeCommands sentOf bytesOf filter immediateCommands immediateBytes immediatesOver samplerCommands changedUnits
     zipped groupCommands groupState texturesNamed samplersNamed offsetsUsed groupOver
     sameTargets allSame eachTarget beginRenderCommands attachColors resolvesFrom invalidations clearColors indirectCommands indexedIndirectCommands
     barriersOf bufferBarrierCommands textureUses copiesOf

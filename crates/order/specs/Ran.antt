@@ -30,7 +30,7 @@ use Rattle.order.specs.Lists.{or-left, or-right}
 use Rattle.order.specs.Machine.{fresh, play}
 use Rattle.order.specs.Book.{Entered, Fed, empty, bookOf}
 use Rattle.order.specs.Accepted.{in-room}
-use Rattle.order.specs.Run.{carried, Recording, record-call, record-calls, fed, Premises}
+use Rattle.order.specs.Run.{carried, Recording, record-call, record-calls, mark-call, mark-calls, fed, Premises}
 use Rattle.order.specs.Invariant.{Agree}
 use Rattle.order.specs.Induction.{Goes, goes, Right, began, all-calls, as-many, found, found-is}
 use Rattle.order.specs.Theorem.{named}
@@ -58,6 +58,10 @@ answers (then {c = c} a d R) = record { call = c; accepted = isDone (a .outcome)
 -- the commands of the used part of the list
 abbrev pub commandsOf : State → Runs → List Command
 commandsOf s r = map (λ (x : Record). x .command) (take (s .progress .commands) (r .commands))
+
+-- the used part of the marker bytes
+abbrev pub marksOf : State → Runs → List ℕ
+marksOf s r = take (s .progress .bytes) (r .bytes)
 
 -- ---- a call appends nothing to a run, or it is handed the run and appends behind what the state counts
 abbrev Lent : {A : Type 0} → List A → ℕ → ℕ → ℕ → ℕ → Type 0
@@ -137,11 +141,12 @@ pub record Within (s : State) (r : Runs) : Type 0 where
   pub bytes : s .progress .bytes ≤ length (r .bytes)
   pub queries : s .progress .queries ≤ length (r .queries)
 
--- what a call leaves of the runs: as long as they were, and the list is the recording's
+-- what a call leaves of the runs: as long as they were, and the list and the marker bytes are the recording's
 record Left (caps : PrivateCapabilities) (s : State) (r : Runs) (c : Call) (s′ : State) (r′ : Runs) : Type 0 where
   pub rooms : roomsOf r′ ≡ roomsOf r
   pub within : Within s′ r′
   pub list : commandsOf s′ r′ ≡ record-call caps (roomsOf r) (record { state = s; list = commandsOf s r }) c .list
+  pub marks : marksOf s′ r′ ≡ mark-call caps (roomsOf r) s (marksOf s r) c
 
 -- the counts of the state that a call goes on from
 counts : (caps : PrivateCapabilities) (s : State) (c : Call)
@@ -205,6 +210,7 @@ carried-through caps s r c W e =
           ∙ map-append (λ (x : Record). x .command) (take (q .after .progress .commands) (take (s .progress .commands) (r .commands))) (map recordOf (q .commands))
           ∙ ap₂ (λ (a b : List Command). a ++ b) (map-take (q .after .progress .commands) (take (s .progress .commands) (r .commands))) (mapped-back (q .commands))
           ∙ sym (ap (λ (t : Bool). cond t (take (q .after .progress .commands) (commandsOf s r) ++ q .commands) (commandsOf s r)) e);
+      marks = B .1 ∙ sym (ap (λ (t : Bool). cond t (take (q .after .progress .bytes) (marksOf s r) ++ q .bytes) (marksOf s r)) e);
     }
   where
     q : Meaning
@@ -264,7 +270,12 @@ one-did caps s r c W = go (carried caps (roomsOf r) s c) refl
         let b = nothing-written (r .bytes) (s .progress .bytes) in
         let d = nothing-written (r .queries) (s .progress .queries) in
         subst (λ (x : Runs). Left caps s r c s x) (sym (λ j. record { commands = a j; bytes = b j; queries = d j }))
-        (record { rooms = refl; within = W; list = sym (ap (λ (t : Bool). cond t (take (q .after .progress .commands) (commandsOf s r) ++ q .commands) (commandsOf s r)) e) })
+        (record {
+          rooms = refl;
+          within = W;
+          list = sym (ap (λ (t : Bool). cond t (take (q .after .progress .commands) (commandsOf s r) ++ q .commands) (commandsOf s r)) e);
+          marks = sym (ap (λ (t : Bool). cond t (take (q .after .progress .bytes) (marksOf s r) ++ q .bytes) (marksOf s r)) e);
+        })
 
 -- what a call leaves that did what its contract says
 left-by : (caps : PrivateCapabilities) (s : State) (r r₁ : Runs) (c : Call) (a : Answer) → Did caps s r c a r₁ → Within s r → Left caps s r c (a .state) r₁
@@ -283,6 +294,14 @@ ran-records caps {s} {s′} {r} {r′} (then {r₁ = r₁} {c = c} {cs = cs} a d
     let e : record { state = a .state; list = commandsOf (a .state) r₁ } ≡ record-call caps (roomsOf r) (record { state = s; list = commandsOf s r }) c = λ j. record { state = d .state j; list = L .list j } in
     let f : Rooms → Recording → Recording = λ x y. record-calls caps x y cs in
     (I .0 ∙ ap (λ (y : Recording). y .state) (ap₂ f (L .rooms) e), I .1 ∙ ap (λ (y : Recording). y .list) (ap₂ f (L .rooms) e))
+
+pub ran-marks : (caps : PrivateCapabilities) {s s′ : State} {r r′ : Runs} {cs : List Call} → Ran caps s r cs s′ r′ → Within s r
+    → marksOf s′ r′ ≡ mark-calls caps (roomsOf r) s (marksOf s r) cs
+unfolding mark-calls
+ran-marks caps done W = refl
+ran-marks caps {s} {s′} {r} {r′} (then {r₁ = r₁} {c = c} {cs = cs} a d R) W =
+    let L = left-by caps s r r₁ c a d W in
+    ran-marks caps R (L .within) ∙ λ j. mark-calls caps (L .rooms j) (d .state j) (L .marks j) cs
 
 -- what the functions answered is what the definition says of the calls
 done-is : (o : Outcome) → isDone o ≡ accepted o
@@ -308,6 +327,7 @@ answers-are caps {s} {s′} {r} {r′} (then {r₁ = r₁} {c = c} {cs = cs} a d
 pub record Begun (caps : PrivateCapabilities) (r : Runs) (a : Answer) : Type 0 where
   pub within : Within (a .state) r
   pub nothing : commandsOf (a .state) r ≡ []
+  pub unmarked : marksOf (a .state) r ≡ []
   pub right : Right caps (record { state = a .state; list = [] }) empty
 
 pub begun-run : (caps : PrivateCapabilities) (s₀ : State) (r₀ r : Runs) (a : Answer) → Did caps s₀ r₀ begin-encoding a r → a .outcome ≡ Done → Begun caps r a
@@ -315,6 +335,7 @@ begun-run caps s₀ r₀ r a d e =
     record {
       within = subst (λ (x : State). Within x r) (sym fresh-state) (record { commands = zero-le; bytes = zero-le; queries = zero-le });
       nothing = ap (λ (x : State). map (λ (y : Record). y .command) (take (x .progress .commands) (r .commands))) fresh-state;
+      unmarked = ap (λ (x : State). marksOf x r) fresh-state;
       right = subst (λ (x : State). Right caps (record { state = x; list = [] }) empty) (sym (d .state)) (began caps (roomsOf r₀) s₀ carries);
     }
   where

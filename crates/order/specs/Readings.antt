@@ -23,7 +23,7 @@ use Rattle.records.specs.declared.state.Phase.the-variants.{Render}
 use Rattle.records.specs.declared.state.State.{State}
 use Rattle.slots.specs.Prepare.{bufferCommands, attributeCommands, sentOf}
 use Rattle.bindings.specs.Group.{noGroup, zipped, groupCommands, groupState, texturesNamed, samplersNamed, offsetsUsed, groupOver}
-use Rattle.bindings.specs.Immediates.{bytesOf, immediateCommands, immediateBytes, immediatesOver}
+use Rattle.bindings.specs.Immediates.{bytesOf, filter, immediateCommands, immediateBytes, immediatesOver}
 use Rattle.bindings.specs.Units.{samplerCommands}
 use Rattle.pass.specs.Marks.{Label}
 use Rattle.pass.specs.Render.{beginRenderCommands, attachColors, resolvesFrom, invalidations, clearColors}
@@ -99,16 +99,16 @@ unfolding all-accepted record-calls fed outcomeOf smallest some? badUnits among 
     beginRenderCommands attachColors resolvesFrom invalidations clearColors
 all-readings = refl
 
--- a handed-in state in a render pass with so many marker bytes used, and one descriptor of four bytes
-abbrev used : ℕ → State
-used bytes =
+-- a handed-in state in a render pass with so many marker bytes used, and one descriptor of four bytes, sent or not
+abbrev used : Bool → ℕ → State
+used sent bytes =
     withProgress (record { phase = Render; commands = 0; bytes = bytes; queries = 0 })
-    (withImmediates (record { descs = described 0 4 ∷ replicate 191 startImmediate; count = 1; words = startImmediates .words }) startState)
+    (withImmediates (record { descs = described 0 4 ∷ replicate 191 startImmediate; count = 1; words = startImmediates .words; sent = sent }) startState)
 
-abbrev answer : ℕ → ℕ
-answer bytes = number (outcomeOf rooms (used bytes) (meaning emulated (used bytes) (set-immediates 0 (lent []))))
+abbrev answer : Bool → ℕ → ℕ
+answer sent bytes = number (outcomeOf rooms (used sent bytes) (meaning emulated (used sent bytes) (set-immediates 0 (lent []))))
 
--- the end of a descriptor's bytes: 2 to the 32, and 1 less, which is still above the limit of the marker bytes; and within it
-pub marker-end : (answer (2 ^ 32 - 4) ≡ 6) × (answer (2 ^ 32 - 5) ≡ 7) × (answer 65532 ≡ 0)
-unfolding outcomeOf smallest some? badUnits among twice testBit bytesOf immediateCommands immediateBytes immediatesOver
-marker-end = (refl, refl, refl)
+-- the end of a descriptor's bytes: 2 to the 32, and 1 less, which is still above the limit of the marker bytes; and within it; a descriptor that is not sent again has no end
+pub marker-end : (answer false (2 ^ 32 - 4) ≡ 6) × (answer false (2 ^ 32 - 5) ≡ 7) × (answer false 65532 ≡ 0) × (answer true (2 ^ 32 - 4) ≡ 7)
+unfolding outcomeOf smallest some? badUnits among twice testBit bytesOf filter immediateCommands immediateBytes immediatesOver
+marker-end = (refl, refl, refl, refl)

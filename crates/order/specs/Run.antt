@@ -35,6 +35,14 @@ unfoldable pub record-calls : PrivateCapabilities → Rooms → Recording → Li
 record-calls caps rooms r [] = r
 record-calls caps rooms r (c ∷ cs) = record-calls caps rooms (record-call caps rooms r c) cs
 
+-- the marker bytes, in the same way
+abbrev pub mark-call : PrivateCapabilities → Rooms → State → List ℕ → Call → List ℕ
+mark-call caps rooms s bytes c = cond (carried caps rooms s c) (take (meaning caps s c .after .progress .bytes) bytes ++ meaning caps s c .bytes) bytes
+
+unfoldable pub mark-calls : PrivateCapabilities → Rooms → State → List ℕ → List Call → List ℕ
+mark-calls caps rooms s bytes [] = bytes
+mark-calls caps rooms s bytes (c ∷ cs) = mark-calls caps rooms (step caps rooms s c .state) (mark-call caps rooms s bytes c) cs
+
 -- what the book is fed: each call, and whether it was accepted
 unfoldable pub fed : PrivateCapabilities → Rooms → State → List Call → List Fed
 fed caps rooms s [] = []

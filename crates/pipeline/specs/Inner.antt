@@ -57,7 +57,7 @@ abbrev pub innerDescriptors : PipelineInner → List ImmediateDesc
 innerDescriptors p = take (p .«immediates_count») (p .«immediates_descs»)
 
 abbrev pub innerImmediates : PipelineInner → ImmediateState → ImmediateState
-innerImmediates p i = record { descs = p .«immediates_descs»; count = p .«immediates_count»; words = i .words }
+innerImmediates p i = record { descs = p .«immediates_descs»; count = p .«immediates_count»; words = i .words; sent = false }
 
 -- 2: more than 192 descriptors
 abbrev pub innerTooMany : PipelineInner → Bool

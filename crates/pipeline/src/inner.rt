@@ -160,6 +160,7 @@ pub fn inner_immediates(p: PipelineInner, i: ImmediateState) -> ImmediateState
         descs,
         count: p.immediates_count,
         words,
+        sent: false,
     }
 }
 

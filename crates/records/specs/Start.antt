@@ -127,7 +127,7 @@ abbrev pub startImmediate : ImmediateDesc
 startImmediate = record { location = 0; ty = 0; offset = 0; «size_bytes» = 0 }
 
 abbrev pub startImmediates : ImmediateState
-startImmediates = record { descs = replicate 192 startImmediate; count = 0; words = replicate 64 0 }
+startImmediates = record { descs = replicate 192 startImmediate; count = 0; words = replicate 64 0; sent = false }
 
 abbrev pub startState : State
 startState =

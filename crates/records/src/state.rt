@@ -250,11 +250,13 @@ impl PassState {
     }
 }
 
-// The immediate descriptors of the current pipeline, and the current words.
+// The immediate descriptors of the current pipeline, the current words, and whether the
+// descriptors were sent since the last pipeline call.
 pub struct ImmediateState {
     pub descs: [ImmediateDesc; MAX_IMMEDIATES_COMMANDS],
     pub count: usize,
     pub words: [u32; MAX_IMMEDIATES],
+    pub sent: bool,
 }
 
 impl ImmediateState {
@@ -271,6 +273,7 @@ impl ImmediateState {
             descs: [desc; MAX_IMMEDIATES_COMMANDS],
             count: 0,
             words: [0; MAX_IMMEDIATES],
+            sent: false,
         }
     }
 }

@@ -87,6 +87,7 @@ inside =
             descs = set (replicate 192 startImmediate) 0 (record { location = 3; ty = 9; offset = 4; «size_bytes» = 4 });
             count = 1;
             words = set (replicate 64 0) 1 305419896;
+            sent = false;
           };
     }
 

@@ -10,13 +10,13 @@ fail() { echo "FAIL $f ($b build) $1"; bad=$((bad+1)); }
 for f in cases/*.txt; do
   builds=$(sed -n 's/^#build //p' "$f"); builds=${builds:-published requested}
   [ -z "$only" ] || { case " $builds " in *" ${only#--} "*) builds=${only#--};; *) continue;; esac; }
-  n=$((n+1))
+  n=$((n+1)); options=$(sed -n 's/^#options //p' "$f")
   for b in $builds; do
     O=$(program "$b"); out="$T/out"; runs=$((runs+1))
-    if [ -z "$O" ] || ! $O run "$f" > "$out"; then fail "(run)"; continue; fi
+    if [ -z "$O" ] || ! $O run "$f" $options > "$out"; then fail "(run)"; continue; fi
     if grep -q '^#0' "$f"; then
       # the list is the one without the last call
-      sed '/^#/d' "$f" | sed '$d' | $O run - > "$T/before.out"
+      sed '/^#/d' "$f" | sed '$d' | $O run - $options > "$T/before.out"
       cmp -s "$out" "$T/before.out" || fail "(records something)"
     else
       k=$(grep -c '^#= ' "$f")

@@ -1,20 +1,23 @@
 #!/usr/bin/env python3
 """damage.py [FROM TO]: that requests.py notices. Random sessions by seed (0 to 1200 if not given) on both builds of the Rust, as compare.sh makes
-them and with --even, and a few cases. The outputs of each kind of session are damaged in one way after another, and requests.hold must refuse every
-damaged pair. It must refuse, too, every pair that differs by request 5 if the session is taken for even. Exit 1 where one is let through, or a way
-was never tried. It needs both builds (build.sh)."""
+them, with --even and with --slider, and a few cases. The outputs of each kind of session are damaged in one way after another, and requests.hold must
+refuse every damaged pair. It must refuse, too, every pair that differs by request 5 if the session is taken for even, and every pair with a location
+twice in a pipeline and another uniform if the location is overlooked. Exit 1 where one is let through, or a way was never tried. It needs both builds
+(build.sh)."""
 import os
 import re
 import subprocess
 import sys
 import tempfile
 
+import damaged_bytes
 import requests
+import uniforms
 
 HERE = os.path.dirname(os.path.abspath(__file__))
 TARGET = os.environ.get("CARGO_TARGET_DIR", os.path.join(os.path.dirname(HERE), "target"))
 MOST = 40      # sessions of a kind that are damaged in one way
-CASES = ("S01_A0_B5_A0", "S03_second_pass_5_A5", "S09_too_far", "S10_no_room")      # with NAME_published, the same calls
+CASES = ("S01_A0_B5_A0", "S03_second_pass_5_A5", "S09_too_far", "U01_slider", "U11_pass_between", "U13_location_twice", "U15_label_behind")      # with NAME_published, the same calls
 BUFFER, OFFSET, STRIDE = ({"SetVertexBuffer": a, "SetVertexAttribute": b} for a, b in ((3, 2), (4, 6), (6, 4)))      # the words of a command
 CLEAR = re.compile(r"^(\d+ ClearColor[FUI] )(\d+)( .*)$", re.M)
 COUNT = re.compile(r"^(\d+ SetDrawColorBuffers )(\d+)()$", re.M)
@@ -38,17 +41,6 @@ def without(text):
     return CLEAR.sub("", text, count=1).replace("\n\n", "\n", 1)
 
 
-def renumbered(lines):
-    """The commands count from 0 in each list, so that only what is missing or too much can be noticed."""
-    done, n = [], 0
-    for line in lines:
-        n = 0 if line == "---" else n
-        if line[0].isdigit():
-            line, n = f"{n} {line.split(' ', 1)[1]}", n + 1
-        done.append(line)
-    return "\n".join(done) + "\n"
-
-
 def sent(lines):
     """The lines of what draws send: vertex buffers, or without layout attributes with a buffer."""
     return [i for i, l in enumerate(lines) if re.match(r"\d+ (SetVertexBuffer|SetVertexAttribute \d)", l)]
@@ -62,7 +54,7 @@ def on_one(change):
         if not at:
             return text
         i = at[len(text) % len(at)]
-        return renumbered(lines[:i] + change(lines[i]) + lines[i + 1:])
+        return damaged_bytes.renumbered(lines[:i] + change(lines[i]) + lines[i + 1:])
     return damaged
 
 
@@ -84,7 +76,7 @@ def needless(text):
             if not lines[k][0].isdigit() or " ResetFramebuffer " in lines[k]:
                 break
             if lines[k].split(" ")[1].startswith("Draw") and not lines[k - 1].split(" ")[1].startswith(("Draw", "SetVertex")):
-                return renumbered(lines[:k] + [lines[i]] + lines[k:])
+                return damaged_bytes.renumbered(lines[:k] + [lines[i]] + lines[k:])
     return text
 
 
@@ -96,11 +88,11 @@ def rest(text):
     return text[text.index("state topology"):]
 
 
-def first_draw(answer):
-    """The first accepted draw call answered otherwise, in the flat form and in the answers."""
+def first_draw(answer, code="25"):
+    """The first accepted draw call, or call of that code, answered otherwise, in the flat form and in the answers."""
     def damaged(flat, text):
         lines = flat.splitlines()
-        at = next((i for i, l in enumerate(lines) if i and l.startswith("0 25 ")), None)
+        at = next((i for i, l in enumerate(lines) if i and l.startswith(f"0 {code} ")), None)
         if at is None:
             return flat, text
         lines[at] = answer + lines[at][1:]
@@ -160,7 +152,14 @@ SLOTS = {
     "a draw refused with 6, both": lambda p, r: (first_draw("6")(*p), first_draw("6")(*r)),
 }
 NUMBERS = {"a slot's number": texts(lambda p, r: (p, more(OWN)(r))), "the numbers left out": texts(lambda p, r: (p, re.sub(r"(?m)^state instance \d.*\n", "", r)))}
-ANSWERS = {f"answer {n} in place of the refusal": parted(n) for n in "13567"}
+ANSWERS = {f"answer {n} in place of the refusal": parted(n) for n in "1357"}
+UNIFORMS = {way: pair for name, change in damaged_bytes.WAYS.items() for way, pair in each(name, change).items()} | {
+    "the first immediate behind the next command, requested": texts(lambda p, r: (p, damaged_bytes.first_later(r))),
+    "the first immediate behind the next command, published": texts(lambda p, r: (damaged_bytes.first_later(p), r)),
+    "immediates refused with 7, requested": lambda p, r: (p, first_draw("7", "16")(*r)),
+    "immediates refused with 7, published": lambda p, r: (first_draw("7", "16")(*p), r),
+    "a pipeline refused with 3, both": lambda p, r: (first_draw("3", "18")(*p), first_draw("3", "18")(*r)),
+}
 
 # kinds of sessions: which they are (what hold says, layout, full instancing, answers equal), and the ways
 KINDS = {
@@ -171,17 +170,22 @@ KINDS = {
     "not even or without a draw, and equal": (lambda h, layout, full, equal: layout and not full and not h.even and "05" not in h.by, {**SLOTS, **NUMBERS}),
     "different by request 5": (lambda h, layout, full, equal: "05" in h.by and equal, {**SLOTS, **NUMBERS, **SWAPS}),
     "answered differently": (lambda h, layout, full, equal: not equal, ANSWERS),
+    "different by request 6": (lambda h, layout, full, equal: "06" in h.by and not h.saved.twice, {**UNIFORMS, **SWAPS}),
+    "with immediates, and equal": (lambda h, layout, full, equal: "06" not in h.by and h.saved.bytes[1] > 0, UNIFORMS),
+    "with a location twice": (lambda h, layout, full, equal: h.saved.twice and h.saved.bytes[1] > 0, UNIFORMS),
 }
 
 
 EVEN = ("different by request 5, taken for even", "")
+TWICE = ("another uniform, a location twice overlooked", "")
 
 
 def batch(build, first, end, folder, options):
-    files = [os.path.join(folder, name) for name in ("flat", "out", "index")]
-    subprocess.run([build, "batch", first, end, *options, "--flat", files[0], "--out", files[1], "--index", files[2]], check=True)
+    files = [os.path.join(folder, build.replace("/", ".") + name) for name in ("flat", "out", "index")]
+    words = [os.path.join(TARGET, build), "batch", first, end, *options, "--flat", files[0], "--out", files[1], "--index", files[2]]
+    subprocess.run(words, check=True)
     flat, out = (open(f).read() for f in files[:2])
-    return zip(sessions(flat), out.split("===\n"))
+    return list(zip(sessions(flat), out.split("===\n"))), files[0]
 
 
 def sessions(flat):
@@ -211,12 +215,14 @@ def let_through(pair):
         return False
 
 
-def taken_for_even(pair):
-    true, requests.uneven = requests.uneven, lambda session: {}
+def without_check(module, name, instead, pair):
+    """Whether the pair is let through if a function of the module is another one."""
+    true = getattr(module, name)
+    setattr(module, name, instead)
     try:
         return let_through(pair)
     finally:
-        requests.uneven = true
+        setattr(module, name, true)
 
 
 def answers(flat):
@@ -226,11 +232,12 @@ def answers(flat):
 def damage(p, r, tried):
     """All ways of the kinds that the session is of; how many were let through."""
     held, head, bad = requests.hold(p, r), p[0].split(" ", 4), 0
-    if "05" in held.by:
-        tried[EVEN] += 1
-        if taken_for_even((p, r)):
-            bad += 1
-            print("let through: different by request 5, taken for even")
+    for kind, fits, *check in ((EVEN, "05" in held.by, requests, "uneven", lambda session: {}), (TWICE, held.saved.differ, uniforms, "twice", lambda call: False)):
+        if fits:
+            tried[kind] += 1
+            if without_check(*check, (p, r)):
+                bad += 1
+                print(f"let through: {kind[0]}")
     for kind, (fits, ways) in KINDS.items():
         if not fits(held, head[0] == "1", head[2] == "1", answers(p[0]) == answers(r[0])):
             continue
@@ -247,13 +254,13 @@ def damage(p, r, tried):
 
 def main():
     first, end = sys.argv[1:3] if len(sys.argv) > 2 else ("0", "1200")
-    tried, bad = {(kind, name): 0 for kind, (_, ways) in KINDS.items() for name in ways} | {EVEN: 0}, 0
+    tried, bad = {(kind, name): 0 for kind, (_, ways) in KINDS.items() for name in ways} | {EVEN: 0, TWICE: 0}, 0
     for p, r in cases():
         bad += damage(p, r, tried)
-    for options in ([], ["--even"]):
+    for options in ([], ["--even"], ["--slider"]):
         with tempfile.TemporaryDirectory() as folder:
-            requested = list(batch(os.path.join(TARGET, "debug/oracle"), first, end, folder, options))
-            published = list(batch(os.path.join(TARGET, "published/debug/oracle"), first, end, folder, options))
+            requested, like = batch("debug/oracle", first, end, folder, options)
+            published, _ = batch("published/debug/oracle", first, end, folder, [*options, "--like", like])
         for p, r in zip(published, requested):
             bad += damage(p, r, tried)
     for kind in dict.fromkeys(kind for kind, _ in tried):

@@ -2,7 +2,7 @@
 """Writes the comparison data (README.md, 'The comparison data'): sessions as numbers and what the
 Rust with the landed requests records for them, held against the published Rust (requests.py).
 Everything comes from seeds and from the scripts at hand, so two runs are equal."""
-import glob, os, re, subprocess, sys
+import glob, os, re, subprocess, sys, tempfile
 import requests
 ROOT = os.path.dirname(os.path.dirname(os.path.abspath(__file__)))
 TARGET = os.environ.get("CARGO_TARGET_DIR", os.path.join(ROOT, "target"))
@@ -49,12 +49,12 @@ def cut(lines, n):
     """the script up to its n-th call"""
     at = [i for i, l in enumerate(lines) if is_call(l)]
     return lines[:at[n]] if n < len(at) else lines
-def remark(lines, build=O):
-    """the expected number before each call, as the model has it"""
+def remark(lines, answers=None):
+    """the expected number before each call: those answers, or as the model has it"""
     lines = [re.sub(r"^\?\d ", "", l) for l in lines]
-    ans = [l.split(" ", 1)[0] for l in oracle("flat", "-", text="\n".join(lines) + "\n", build=build).splitlines()[1:]]
-    it = iter(ans)
+    it = iter(answers or answers_of(oracle("flat", "-", text="\n".join(lines) + "\n")))
     return [(lambda a: l if a == "0" else f"?{a} {l}")(next(it)) if is_call(l) else l for l in lines]
+def answers_of(flat): return [l.split(" ", 1)[0] for l in flat.splitlines()[1:]]
 def refused(lines): return sum(1 for l in lines if l.startswith("?"))
 def needs(lines):
     """the most commands, bytes and queries of a list"""
@@ -133,6 +133,36 @@ def sessions():
         yield f"refused/seed{s}+{t}", two(l, m)
     yield from slot_sessions(N, "even", 50001, 5)
     yield from slot_sessions(N, "mixed", 70001, 2)
+    yield from slider_sessions(N + ["--slider"], 90001)
+
+def twice(lines):
+    """a pipeline has a location twice among its descriptors"""
+    found = [re.findall(r"[=,](\d+):", m[0]) for l in lines for m in [re.search(r"imm=\S+", l)] if m]
+    return any(len(set(f)) < len(f) for f in found)
+
+def slider_sessions(N, first):
+    """of four boards three accepted ones, one of them cut, one with room for exactly what it records, two with refused calls, one of them cut, one with room
+    for one command less and one for one byte less than it needs, all with distinct locations in a pipeline; and two without that"""
+    accepted = seeds(lambda l: not twice(l), N, first)
+    wide = seeds(lambda l: refused(l) > 2 and not has_room(l) and not twice(l), N + ["--refused"], first + 10000)
+    again = seeds(twice, N, first + 20000)
+    for c in ("0000", "0111", "1001", "1110"):
+        for k in range(3):
+            s, l = accepted(c)
+            if k == 1: l, n = inside(l, s); yield f"accepted/slider/seed{s}/cut{n}", l
+            else: yield f"accepted/slider/seed{s}", l
+        s, l = accepted(c)
+        yield f"accepted/slider/seed{s}/exact", with_room(l, needs(l))
+        for k in range(2):
+            s, l = wide(c)
+            if k: l, n = inside(l, s); l = remark(l); yield f"refused/slider/seed{s}/cut{n}", l
+            else: yield f"refused/slider/seed{s}", l
+        for k in range(2):
+            s, l = accepted(c); r = needs(l); r[k] -= 1
+            yield f"refused/slider/seed{s}/short", remark(with_room(l, r))
+        for k in range(2):
+            s, l = again(c)
+            yield f"accepted/slider/seed{s}/twice", l
 
 def slot_sessions(N, kind, first, each):
     """of each board with layout that emulates instancing as many accepted ones, whole and cut, and as many with refused calls; the last has
@@ -151,25 +181,31 @@ def slot_sessions(N, kind, first, each):
         s, l = accepted(c); r = needs(l); r[0] -= 1
         yield f"refused/{kind}/seed{s}/short", remark(with_room(l, r))
 
+def both(lines):
+    """the script, its flat form and what is printed, on the requested build, and on the published one with the requested one's answers of 7"""
+    run, text = ["run", "-", "--all", "--bytes", "--queries", "--state"], "\n".join(lines) + "\n"
+    f = oracle("flat", "-", text=text)
+    with tempfile.NamedTemporaryFile("w", suffix=".flat") as like:
+        like.write(f); like.flush()
+        theirs = ["--like", like.name]
+        g = oracle("flat", "-", *theirs, text=text, build=PUBLISHED)
+        script = text if f == g else "\n".join(remark(lines, answers_of(g))) + "\n"
+        return (text, f, oracle(*run, text=text)), (script, g, oracle(*run, *theirs, text=script, build=PUBLISHED))
+
 def main():
     keep = sys.argv[sys.argv.index("--scripts") + 1] if "--scripts" in sys.argv else None
     if keep: os.makedirs(keep, exist_ok=True)
     flat, out, index = [], [], ["# number name flags(layout barriers instancing msrtt) room calls refused lists commands requests(= none)"]
     tally = requests.Tally()
     for i, (name, lines) in enumerate(sessions()):
-        text = "\n".join(lines) + "\n"
-        f = oracle("flat", "-", text=text)
-        run = ["run", "-", "--all", "--bytes", "--queries", "--state"]
-        g = oracle("flat", "-", text=text, build=PUBLISHED)
-        theirs = text if f == g else "\n".join(remark(lines, PUBLISHED)) + "\n"
-        o, p = oracle(*run, text=text), oracle(*run, text=theirs, build=PUBLISHED)
-        for build, script, printed in (("requested", text, o), ("published", theirs, p)) if keep else ():
-            for ending, content in (("txt", f"# {name}\n{script}"), ("out", printed)): open(os.path.join(keep, f"{i:03d}.{build}.{ending}"), "w").write(content)
+        (text, f, o), (theirs, g, p) = both(lines)
+        for build, script, numbers, printed in (("requested", text, f, o), ("published", theirs, g, p)) if keep else ():
+            for ending, content in (("txt", f"# {name}\n{script}"), ("flat", numbers), ("out", printed)): open(os.path.join(keep, f"{i:03d}.{build}.{ending}"), "w").write(content)
         try: held = requests.hold((g, p), (f, o))
         except requests.Unequal as e: sys.exit(f"{name}: the two builds differ otherwise than a request allows: {e}")
         if "/even/" in name and not held.even: sys.exit(f"{name}: not even")
         tally.add(held)
-        a = [l.split(" ", 1)[0] for l in f.splitlines()[1:]]
+        a = answers_of(f)
         r = sum(x != "0" for x in a)
         if name.startswith("accepted") and r or name.startswith("refused") and not r: sys.exit(f"{name}: {r} refused")
         said = [l.split(" ")[2] for l in oracle("run", "-", "--answers", text=text).splitlines() if l.startswith("answer ")]
@@ -212,6 +248,7 @@ def count(tally):
     need("sessions", sess, 200); need("accepted sessions", acc, 100); need("refused sessions", sess - acc, 100)
     need("even sessions", tally.even[0], 40); need("even sessions that bind a slot by its number alone", tally.even[1], 20)
     for k, v in tally.by.items(): need(f"sessions different by request {k}", v[0], 10)
+    need("set_immediates compared by their uniforms", tally.immediates[1], 500); need("sessions with another uniform, a location twice", tally.twice[1], 3)
     t += ["flags (layout barriers instancing msrtt): sessions accepted, with refused calls"]
     t += [f"  {k} {v[0]} {v[1]}" for k, v in flags.items()]
     for k, v in flags.items(): need("flags " + k, v[0], 5); need("flags " + k + " refused", v[1], 5)

@@ -1,8 +1,11 @@
 #!/usr/bin/env python3
 """Does the harness have teeth? Builds the oracle from copies of the published command.rs (M) and of the requested one (R)
 with one fault each (in target/mut; nothing else is touched) and says who notices: the model and the book in random
-sessions, the cases, and the sessions of data/ (outputs that differ from those of the build without the fault)."""
+sessions, the cases, the sessions of data/ (outputs that differ from those of the build without the fault), and the
+comparison of the two builds (how many of the outputs that differ requests.py refuses)."""
 import glob, subprocess, os, shutil
+import requests
+from immediate_faults import FAULTS
 R = os.path.dirname(os.path.dirname(os.path.abspath(__file__))); W = R + '/target/mut/ws'
 shutil.rmtree(W, ignore_errors=True); os.makedirs(W)
 for d in ('Cargo.toml', '.cargo', 'oracle', 'shims', 'upstream', 'cases', 'tools'):
@@ -28,21 +31,33 @@ M = [('M0 none', '', ''),
 ('R5 nothing is remembered without layout', '                self.state.active_first_instance[attribute.buffer_index as usize] = first_instance;\n', ''),
 ('R6 a woken slot without a buffer remembers', '            {\n                self.state.dirty_vbuf_mask |= 1 << index;\n', '            {\n                self.state.active_first_instance[index] = emulated_first_instance_value;\n                self.state.dirty_vbuf_mask |= 1 << index;\n'),
 ]
-for n, a, b in M:
+def text(path):
+    with open(path) as f: return f.read()
+def refused(script, build, printed):
+    """Whether requests.py refuses what the faulty build prints for a script, beside what the other build prints."""
+    at = script[:-len(f'{build}.txt')]
+    pair = [(text(f'{at}{b}.flat'), printed if b == build else text(f'{at}{b}.out')) for b in ('published', 'requested')]
+    try: requests.hold(*pair)
+    except (requests.Unequal, IndexError, StopIteration): return True      # the last two: the output stops early
+    return False
+for n, *pairs in M + FAULTS:
     build = {'M': 'published', 'R': 'requested'}[n[0]]
     src = open(f'{R}/{FILES[build]}').read()
     scripts = sorted(glob.glob(f'{R}/target/mut/scripts/*.{build}.txt'))
-    want = [open(f[:-len('txt')] + 'out').read() for f in scripts]
-    assert a == '' or src.count(a) == 1, n
-    open(f'{W}/{FILES[build]}', 'w').write(src.replace(a, b) if a else src)
+    want = [text(f[:-len('txt')] + 'out') for f in scripts]
+    for a, b in zip(pairs[::2], pairs[1::2]):
+        assert a == '' or src.count(a) == 1, n
+        src = src.replace(a, b) if a else src
+    open(f'{W}/{FILES[build]}', 'w').write(src)
     r = subprocess.run(['cargo', 'build', '--target-dir', 'target/' + build, *(['--features', 'oracle/published'] if build == 'published' else [])], cwd=W, capture_output=True, text=True)
     assert r.returncode == 0, r.stderr[-600:]
     o = f'{W}/target/{build}/debug/oracle'
     fuzz = lambda *k: subprocess.run([o, *k], capture_output=True, text=True).stdout.strip().split('\n')[-1]
-    fz = fuzz('fuzz', '0', '300') + ', mixed: ' + fuzz('fuzz', '0', '300', '--mixed')
+    fz = fuzz('fuzz', '0', '300') + ', mixed: ' + fuzz('fuzz', '0', '300', '--mixed') + ', slider: ' + fuzz('fuzz', '0', '300', '--slider')
     bk = fuzz('bookfuzz', '0', '300', '--mixed') or 'stopped (the model objects first)'
     cs = subprocess.run(['bash', '-c', f'{"PUBLISHED" if build == "published" else "ORACLE"}={o} tools/check_cases.sh --{build} | grep -c FAIL'], cwd=W, capture_output=True, text=True).stdout.strip()
     got = [subprocess.run([o, 'run', f, '--no-model', '--all', '--bytes', '--queries', '--state'], capture_output=True, text=True).stdout for f in scripts]
-    ds = sum(g != w for g, w in zip(got, want))
-    print(f'{n} | fuzz: {fz} | book: {bk[:100]} | cases failing: {cs} | data differing: {ds} of {len(want)}', flush=True)
+    differ = [(f, g) for f, g, w in zip(scripts, got, want) if g != w]
+    rs = sum(refused(f, build, g) for f, g in differ)
+    print(f'{n} | fuzz: {fz} | book: {bk[:100]} | cases failing: {cs} | data differing: {len(differ)} of {len(want)}, {rs} of them refused', flush=True)
 shutil.rmtree(R + '/target/mut', ignore_errors=True)

@@ -5,54 +5,22 @@ A request's allowance is a function of the session and the two outputs. It check
 that output's own rule, puts it aside and answers the two outputs that are left and the passes in which they differed.
 What is left after the last one must be equal line by line. Shares no code with the oracle and none with the library."""
 import collections
+from flatform import DRAWS, Unequal, pipeline, places
+from uniforms import words_sent
 
 KINDS = ("ClearColorF", "ClearColorU", "ClearColorI")    # by a view's sample kind: float, uint, sint
 CLEAR = 2                                                # the bit of a place's operations
-DRAWS = {25: "Draw", 26: "DrawIndexed", 27: "DrawIndirect", 28: "DrawIndexedIndirect"}    # by a call's code
 BINDS = ("SetVertexAttribute", "SetVertexBuffer")        # what a draw sends of its slots, without and with vertex buffer layout
 U32, U64 = 2 ** 32 - 1, 2 ** 64 - 1
 
 
-class Unequal(Exception):
-    """An output has something that no landed request allows."""
-
-
-class Numbers:
-    """A call of the flat form, read from the left (README.md, 'Flat form')."""
-    def __init__(self, call): self.left = iter(map(int, call.split()))
-    def n(self): return next(self.left)
-    def skip(self, count): return [self.n() for _ in range(count)]
-    def opt(self, f): return f() if self.n() else None
-    def list(self, f): return [f() for _ in range(self.n())]
-    def view(self): return self.skip(10)
-    def place(self):
-        view = self.view(); self.opt(self.n); self.opt(self.view)
-        ops = self.n(); self.skip(4)
-        return view[8], ops
-
-
-def places(call):
-    """The colour places of a begin_render_pass, empty ones None: sample kind, operations."""
-    r = Numbers(call); r.skip(1 + 4)
-    r.opt(lambda: r.list(r.n))
-    r.opt(lambda: (r.n(), r.list(r.n), r.opt(r.n), r.opt(r.n)))
-    return r.list(lambda: r.opt(r.place))
-
-def pipeline(call):
-    """The slots of a set_render_pipeline, absent ones None: step, stride; and its attributes: location, offset, slot, count, format, kind."""
-    r = Numbers(call); r.skip(1 + 1); r.opt(r.n); r.skip(1)
-    for _ in range(16): r.opt(r.n)
-    r.list(lambda: r.skip(4)); r.skip(5)
-    return r.list(lambda: r.opt(lambda: tuple(r.skip(2)))), r.list(lambda: r.skip(6))
-
-
 class Session:
-    """A session's calls and one build's answers, as the flat form has them. `own`: the build has request 5."""
-    def __init__(self, flat, own):
+    """A session's calls and one build's answers, as the flat form has them. `landed`: the build has the requests."""
+    def __init__(self, flat, landed):
         head, *lines = flat.splitlines()
         head = list(map(int, head.split()))
         if len(lines) != head[7]: raise Unequal("the flat form has not the calls it says")
-        self.layout, self.emulated, self.room, self.own = bool(head[0]), not head[2], min(head[4], 4096), own
+        self.head, self.layout, self.emulated, self.landed = head, bool(head[0]), not head[2], landed
         answers, self.calls = zip(*(l.split(" ", 1) for l in lines)) if lines else ((), ())
         self.answers = list(map(int, answers))
         self.codes = [int(c.split(" ", 1)[0]) for c in self.calls]
@@ -178,13 +146,13 @@ def drawn(session, slots, at, in_list, run):
     first, count = (0, int(words[-1])) if code in (27, 28) else (int(words[-2]), 1)
     answer = session.answers[at]
     sent, over, moved = slots.draw(first, answer == 0)
-    if over and answer not in (1, 4, 6) or code == 25 and answer == 6 and not over:
+    if over and answer not in ((1, 4, 6) if session.landed else (1, 4, 6, 7)) or code == 25 and answer == 6 and not over:
         raise Unequal(f"call {at} is answered with {answer}, its sums {'leave' if over else 'stay in'} their fields")
     return Drawn(at, in_list, run, answer, sent, over, moved, DRAWS[code], count)
 
 def walk(session):
     """All draw calls, refused ones too, and the slots after the last call."""
-    slots, draws, in_list, run = Slots(session.layout, session.emulated, session.own), [], -1, -1
+    slots, draws, in_list, run = Slots(session.layout, session.emulated, session.landed), [], -1, -1
     for at, (code, answer) in enumerate(zip(session.codes, session.answers)):
         if code in DRAWS: draws.append(drawn(session, slots, at, in_list, run))
         if answer: continue
@@ -265,23 +233,17 @@ def open_pass(session, at):
     marks = [i for i in session.accepted() if i < at and session.codes[i] in (0, 2, 3, 4, 5)]
     return session.begun.index(marks[-1]) if marks and session.codes[marks[-1]] in (2, 4) else None
 
-def parted(p, r, broken, lengths):
-    """The first call that the builds answer differently, None if there is none. The list must have a pass that is not even by then, and one build
-    must refuse the call with 6, its sums alone leaving their fields, or with 7, having sent more than the other, which had no room for as much."""
+def parted(p, r, broken):
+    """The first call that the builds answer differently, None if there is none: a draw call that one build accepts and the other refuses with 6, its
+    sums alone leaving their fields. The list must have a pass that is not even by then."""
     at = next((i for i, (x, y) in enumerate(zip(p.answers, r.answers)) if x != y), None)
     if at is None: return None
-    pair = {s.answers[at]: s for s in (p, r)}
     begun = r.lists_begun(at)
     since = begun[-1] if begun else at
     over = {s.answers[at] for s in (p, r) for d in s.draws if d.call == at and d.over}
-    much = lambda s: sum(len(d.sent) for d in s.draws if since < d.call <= at and (d.answer == 0 or d.call == at))
     fits = r.layout and r.emulated and any(since < i <= at for i in broken.values())
-    if 6 in pair: fits = fits and set(pair) <= {0, 6, 7} and over == {6}
-    else:
-        fits = fits and set(pair) == {0, 7} and not over
-        more = fits and much(pair[7]) - much(pair[0])
-        fits = fits and more > 0 and lengths[pair[0] is r][len(begun) - 1] + more > r.room
-    if not fits: raise Unequal(f"call {at}: the published build answers {p.answers[at]}, the requested one {r.answers[at]}")
+    if not fits or {p.answers[at], r.answers[at]} != {0, 6} or over != {6}:
+        raise Unequal(f"call {at}: the published build answers {p.answers[at]}, the requested one {r.answers[at]}")
     return at
 
 def up_to(session, where, lists, at):
@@ -298,7 +260,7 @@ def own_numbers(p, r, published, requested):
     lists = [lists_of(lines) for _, lines in sides]
     where = [sent_at(s, lines, l) for (s, lines), l in zip(sides, lists)]
     for s, lines in sides: check_state(s, lines)
-    at = parted(p, r, broken, [[len(l) for l in of] for of in lists])
+    at = parted(p, r, broken)
     odd = [d for d, e in zip(r.draws, p.draws) if d.answer == 0 and (at is None or d.call < at) and d.sent != e.sent]
     for d in odd:
         if not (r.layout and r.emulated and broken.get(d.run, d.call + 1) <= d.call): raise Unequal(f"call {d.call} sends something else in the two builds")
@@ -318,17 +280,18 @@ def own_numbers(p, r, published, requested):
 
 # ---------------------------------------------------------------- all of them
 
-LANDED = (("01", place_numbers), ("05", own_numbers))      # in the order of requests/*.patch
+LANDED = (("06", words_sent), ("01", place_numbers), ("05", own_numbers))      # 06 first: it leaves commands that count from 0
 
 # passes; by which request they differ, and in which passes; an even session with a draw, on a board with layout and emulated instancing;
-# a slot of it is bound by its number alone
-Held = collections.namedtuple("Held", "passes by even moved")
+# a slot of it is bound by its number alone; what request 6 saves
+Held = collections.namedtuple("Held", "passes by even moved saved")
 
 
 def hold(published, requested):
     """Each output with its own flat form: (flat, output). Unequal where they differ otherwise than a request allows."""
     p, r = Session(published[0], False), Session(requested[0], True)
-    if (p.calls, p.layout, p.emulated, p.room) != (r.calls, r.layout, r.emulated, r.room): raise Unequal("the calls are not the same")
+    if (p.calls, p.head) != (r.calls, r.head): raise Unequal("the calls are not the same")
+    if [a == 7 for a in p.answers] != [a == 7 for a in r.answers]: raise Unequal("not the same calls are refused with 7")
     outputs = [text.splitlines() for _, text in (published, requested)]
     for s, lines in zip((p, r), outputs):
         said = [l for l in lines if l.startswith("answer ")]
@@ -345,36 +308,52 @@ def hold(published, requested):
     if bool(by) != (plain[0] != plain[1] or p.answers != r.answers): raise Unequal(f"they differ by {mark(by)}, but not as texts, or the other way round")
     draws = [d for d in r.draws if d.answer == 0]
     even = r.layout and r.emulated and not uneven(r) and any(d.count for d in draws)
-    return Held(len(r.begun), by, even, even and any(d.moved for d in draws))
+    return Held(len(r.begun), by, even, even and any(d.moved for d in draws), r.saved)
 
 def mark(by):
     """What the index says of a session."""
-    return "+".join(by) or "="
+    return "+".join(sorted(by)) or "="
 
 
 class Tally:
-    """How many sessions and passes are equal to the published Rust, and how many differ by each request."""
+    """How many sessions and passes are equal to the published Rust, and how many differ by each request; what request 6 saves."""
     def __init__(self):
-        self.all, self.equal, self.by, self.even = [0, 0], [0, 0], {name: [0, 0] for name, _ in LANDED}, [0, 0]
+        self.all, self.equal, self.but_06, self.even = [0, 0], [0, 0], [0, 0], [0, 0]
+        self.by = {name: [0, 0] for name in sorted(name for name, _ in LANDED)}
+        self.immediates, self.commands, self.bytes, self.twice = [0, 0], [0, 0], [0, 0], [0, 0]
 
     def add(self, held):
         def count(to, *more):
             for i, n in enumerate(more): to[i] += n
+        passes = lambda by: len(set().union(*by.values()))
+        others = {name: where for name, where in held.by.items() if name != "06"}
         count(self.all, 1, held.passes)
-        count(self.equal, not held.by, held.passes - len(set().union(*held.by.values())))
+        count(self.equal, not held.by, held.passes - passes(held.by))
+        count(self.but_06, not others, held.passes - passes(others))
         for name, where in held.by.items(): count(self.by[name], 1, len(where))
         count(self.even, held.even, held.moved)
+        count(self.immediates, held.saved.calls, held.saved.compared)
+        count(self.commands, *held.saved.commands)
+        count(self.bytes, *held.saved.bytes)
+        count(self.twice, held.saved.twice, held.saved.differ)
 
     def text(self):
         of = lambda n: f"{n[0]} sessions, {n[1]} passes"
-        return "\n".join([f"of {of(self.all)}", f"  equal to the published Rust {of(self.equal)}", *(f"  different by request {k} {of(v)}" for k, v in self.by.items()),
-            f"  even, with a draw, layout and emulated instancing {self.even[0]} sessions, {self.even[1]} of them bind a slot by its number alone"])
+        two = lambda n: f"{n[0]} published, {n[1]} requested, {n[0] - n[1]} saved"
+        return "\n".join([f"of {of(self.all)}", f"  equal to the published Rust {of(self.equal)}", f"  equal but for request 06 {of(self.but_06)}",
+            *(f"  different by request {k} {of(v)}" for k, v in self.by.items()),
+            f"  even, with a draw, layout and emulated instancing {self.even[0]} sessions, {self.even[1]} of them bind a slot by its number alone",
+            f"  set_immediates accepted {self.immediates[0]}, compared by their uniforms {self.immediates[1]}",
+            f"  their commands {two(self.commands)}", f"  their bytes {two(self.bytes)}",
+            f"  with a location twice in a pipeline {self.twice[0]} sessions, {self.twice[1]} of them with another uniform"])
 
-    def faults(self, by_pass=False, even=False):
-        """Why the comparison shows too little; counted by session, or by pass. `even`: the sessions were made to be even, none has to differ by request 5."""
+    def faults(self, by_pass=False, even=False, slider=False):
+        """Why the comparison shows too little; counted by session, or by pass. `even`: the sessions were made to be even, none has to differ by request 5;
+        `slider`: they were made for request 6, nor has one to be equal."""
         k, what = (1, "pass") if by_pass else (0, "session")
-        bad = [f"no {what} differs by request {name}" for name, n in self.by.items() if not n[k] and not (even and name == "05")]
-        if not self.equal[k]: bad.append(f"no {what} is equal to the published Rust")
-        elif 2 * self.equal[k] < self.all[k]: bad.append(f"fewer than half are equal to the published Rust, counted by {what}")
+        bad = [f"no {what} differs by request {name}" for name, n in self.by.items() if not n[k] and not ((even or slider) and name == "05")]
+        if not self.equal[k] and not slider: bad.append(f"no {what} is equal to the published Rust")
+        if 2 * self.but_06[k] < self.all[k]: bad.append(f"fewer than half are equal to the published Rust but for request 06, counted by {what}")
         if even and 2 * self.even[1] < self.all[0]: bad.append("fewer than half are even and bind a slot by its number alone")
+        if 2 * self.immediates[1] < self.immediates[0]: bad.append("fewer than half of the set_immediates are compared by their uniforms")
         return bad

@@ -4,17 +4,19 @@ use crate::gen;
 use crate::model::*;
 use crate::script::*;
 
-/// `long`: one list, filled until it has no room. `even`: `gen --even` on boards with layout that emulate instancing.
-pub struct Options { pub calls: Option<usize>, pub long: bool, pub even: bool }
+/// `long`: one list, filled until it has no room. `even`: `gen --even` on boards with layout that emulate instancing. `slider`: `gen --slider`.
+pub struct Options { pub calls: Option<usize>, pub long: bool, pub even: bool, pub slider: bool }
 
 /// By which sessions are made, so that both builds make the same ones.
-const RULE: Rule = Rule::Bound;
+const RULE: Rule = Rule::Requested;
 
-/// Sessions on boards with layout that emulate instancing: a third each as on other boards, `gen --even`, `gen --mixed`.
-fn kind(seed: u64, caps: Caps, o: &Options) -> (bool, bool) {
-    let k = gen::Rng(seed / 2).next() % 3;
+/// `gen --even`, `--mixed`, `--slider`. On boards with layout that emulate instancing a third of the sessions each is even and mixed, on others a quarter
+/// is made for immediates.
+fn kind(seed: u64, caps: Caps, o: &Options) -> (bool, bool, bool) {
+    if o.even || o.slider { return (o.even, false, o.slider); }
+    let k = gen::Rng(seed / 2).next();
     let here = caps.layout && !caps.instancing;
-    (o.even || here && k == 1, !o.even && here && k == 2)
+    (here && k % 3 == 1, here && k % 3 == 2, !here && k % 4 == 1)
 }
 
 /// How a session is changed after it is made.
@@ -38,7 +40,11 @@ fn board(n: u64, even: bool) -> Caps {
 /// The expected number of each call anew; how many are refused.
 fn judge(s: &mut Script, rule: Rule) -> usize {
     let mut m = Model::by(rule, s.caps, s.room);
-    for (_, expect, c) in &mut s.calls { *expect = Some(m.call(c, &Readings::LETTER).answer); }
+    for at in 0..s.calls.len() {
+        let full = s.full(at);
+        let (_, expect, c) = &mut s.calls[at];
+        *expect = Some(m.call_like(c, &Readings::LETTER, full).answer);
+    }
     s.calls.iter().filter(|c| c.1 != Some(0)).count()
 }
 
@@ -73,10 +79,10 @@ fn made(seed: u64, from: u64, o: &Options) -> (Script, usize) {
     let refused = seed % 2 == 1;
     let form = if o.long { Form::Whole } else { FORMS[(seed / 32 % 6) as usize] };
     let caps = board(seed / 2 % 16, o.even);
-    let (even, mixed) = kind(seed, caps, o);
+    let (even, mixed, slider) = kind(seed, caps, o);
     let calls = o.calls.unwrap_or(if o.long { 2000 } else { 60 });
     let text = gen::session(from, &gen::Options {
-        calls, refused: refused && form != Form::Room, ambiguous: refused && form == Form::Rules, board: Some(caps), one_list: o.long, even, mixed, rule: RULE, ..Default::default()
+        calls, refused: refused && form != Form::Room, ambiguous: refused && form == Form::Rules, board: Some(caps), one_list: o.long, even, mixed, slider, rule: RULE, ..Default::default()
     });
     let mut s = Script::parse(&text).expect("the generator's script");
     match form {
@@ -88,12 +94,17 @@ fn made(seed: u64, from: u64, o: &Options) -> (Script, usize) {
     (s, n)
 }
 
-/// The session of a seed, its expected numbers by this build's rule. Where an odd seed has no refused call, others are tried in its place.
-pub fn session(seed: u64, o: &Options) -> Script {
+/// The session of a seed, its expected numbers by this build's rule, those of 7 by `full` if it is given. Where an odd seed has no refused call,
+/// others are tried in its place.
+pub fn session(seed: u64, o: &Options, full: Option<Vec<bool>>) -> Script {
     let mut from = seed;
     loop {
         let (mut s, refused) = made(seed, from, o);
-        if (refused > 0) == (seed % 2 == 1) { judge(&mut s, Rule::BUILD); return s; }
+        if (refused > 0) == (seed % 2 == 1) {
+            s.like(full).unwrap_or_else(|e| panic!("seed {seed}: {e}"));
+            judge(&mut s, Rule::BUILD);
+            return s;
+        }
         from = from.wrapping_add(1 << 40);
     }
 }

@@ -1,4 +1,5 @@
 -- `binding_calls::sending::plan_set_immediates` meets its contract. Assumes nothing.
+use mathlib.Core.Path.{refl}
 use Rattle.pass.specs.Marks.{Lent}
 use Rattle.binding_calls.proofs.ImmediatePlanned.{verdict, planned}
 use borrow.Author.Needs.{needs}
@@ -43,7 +44,7 @@ taken-words-requires c κs = search needs
 
 returns : tie.Need-returns
 returns c =
-    let placed = c .before .before .before .before in
+    let placed = c .before .before .before .before .before .before in
     let judging = placed .before .before in
     let asking = judging .before .before .before .before .before in
     let working = asking .before .before .before in
@@ -61,7 +62,7 @@ returns c =
       judging .before .broken-limits .ensures,
     ) at (judging .judge .ensures) in
     planned (a .room) (a .bytes-room) (a .s) (a .offset) ws (w .result) (w .ensures) (verdict (a .room) (a .bytes-room) (a .s) (a .offset) ws (w .result) (w .ensures) v)
-    _ _ _ _ _ (c .taken-words .ensures)
+    _ _ _ _ _ _ (c .before .before .taken-words .ensures) refl
     (placed .before .spot-of .ensures) (placed .spot-of2 .ensures)
 
 pub plan-set-immediates-spec : {M : Type 1} → statement M

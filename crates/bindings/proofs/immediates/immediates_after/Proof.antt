@@ -1,6 +1,6 @@
 -- `bindings::immediates::immediates_after` meets its contract. Invariant: the first j words are written. Measure: the words left. Assumes nothing.
 use Prim.Native.Nat.{ℕ, suc, _+_, _-_, _/_, _%_, _≤_, _<_, min}
-use mathlib.Core.Bool.{false, not, true≢false}
+use mathlib.Core.Bool.{true, false, not, true≢false}
 use mathlib.Core.List.{List, _++_, append-assoc}
 use mathlib.Core.Path.{_≡_, sym, ap, ap₂, _∙_}
 use native.Mathlib.Omega.{arith}
@@ -17,7 +17,7 @@ use Rattle.bindings.proofs.immediates.immediates_after.Statement.{state
 use Rattle.bindings.proofs.immediates.immediates_after.Tie as tie
 
 abbrev with-words : ImmediateState → List ℕ → ImmediateState
-with-words i ws = record { descs = i .descs; count = i .count; words = ws }
+with-words i ws = record { descs = i .descs; count = i .count; words = ws; sent = true }
 
 in-range : (offset count : ℕ) → immediatesOutOfRange offset count ≡ false → offset / 4 + count ≤ 64
 in-range offset count e = ltb-false 64 (offset / 4 + count) (neither (not (eqb (offset % 4) 0)) (ltb 64 (offset / 4 + count)) e .1)

@@ -38,6 +38,8 @@ pub(super) struct State {
     immediates_descs: ArrayVec<super::ImmediateDesc, { super::MAX_IMMEDIATES_COMMANDS }>,
     // The current state of the immediate data block.
     current_immediates_data: [u32; super::MAX_IMMEDIATES],
+    // Every uniform of `immediates_descs` was sent since the last pipeline call.
+    immediates_sent: bool,
     end_of_pass_timestamp: Option<glow::Query>,
     clip_distance_count: u32,
 }
@@ -67,6 +69,7 @@ impl Default for State {
             first_instance_location: Default::default(),
             immediates_descs: Default::default(),
             current_immediates_data: [0; super::MAX_IMMEDIATES],
+            immediates_sent: Default::default(),
             end_of_pass_timestamp: Default::default(),
             clip_distance_count: Default::default(),
         }
@@ -243,6 +246,7 @@ impl super::CommandEncoder {
         self.state
             .immediates_descs
             .clone_from(&inner.immediates_descs);
+        self.state.immediates_sent = false;
 
         // rebind textures, if needed
         let mut dirty_textures = 0u32;
@@ -845,8 +849,8 @@ impl crate::CommandEncoder for super::CommandEncoder {
             let uniform_end_words = uniform_start_words + uniform_size_words;
 
             // Is true if any word within the uniform binding was updated
-            let needs_updating =
-                start_words < uniform_end_words || uniform_start_words <= end_words;
+            let shares_word = start_words.max(uniform_start_words) < end_words.min(uniform_end_words);
+            let needs_updating = shares_word || !self.state.immediates_sent;
 
             if needs_updating {
                 let uniform_data = &self.state.current_immediates_data
@@ -860,6 +864,7 @@ impl crate::CommandEncoder for super::CommandEncoder {
                 });
             }
         }
+        self.state.immediates_sent = true;
     }
 
     unsafe fn insert_debug_marker(&mut self, label: &str) {

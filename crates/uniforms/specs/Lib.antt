@@ -1,0 +1,14 @@
+pub mod Uniforms
+pub mod Rust
+pub mod Since
+pub mod Words
+pub mod Loads
+pub mod Plays
+pub mod Quiet
+pub mod Means
+pub mod Kept
+pub mod Appended
+pub mod Theorem
+pub mod RanUniforms
+pub mod History
+pub mod Witness

@@ -1,0 +1,38 @@
+-- Document 02, request 6, of what the functions hand back: their list and marker bytes leave every uniform as the Rust's do. Assumes nothing.
+use Prim.Native.Nat.{ℕ}
+use mathlib.Core.Path.{_≡_, sym, ap, ap₂, _∙_, subst}
+use mathlib.Core.List.{List, []}
+use Rattle.records.specs.Outcome.{accepted}
+use Rattle.records.specs.declared.command.Command.{Command}
+use Rattle.records.specs.declared.outcome.Outcome.the-variants.{Done}
+use Rattle.records.specs.declared.pipeline.PrivateCapabilities.{PrivateCapabilities}
+use Rattle.records.specs.declared.state.Answer.{Answer}
+use Rattle.records.specs.declared.state.State.{State}
+use Rattle.calls.specs.Call.{Call, begin-encoding}
+use Rattle.calls.specs.Did.{Runs, roomsOf, Did}
+use Rattle.order.specs.Run.{record-calls, mark-calls}
+use Rattle.order.specs.Ran.{Ran, commandsOf, marksOf, answers, answers-are, ran-records, ran-marks, Begun, begun-run}
+use Rattle.uniforms.specs.Uniforms.{held}
+use Rattle.uniforms.specs.Rust.{rust-lists, noLists, Apartness}
+use Rattle.uniforms.specs.Theorem.{Tied, began, all-calls}
+
+pub uniforms-of-run : (caps : PrivateCapabilities) (s₀ s′ : State) (r₀ r r′ : Runs) (a : Answer) (calls : List Call)
+    → Did caps s₀ r₀ begin-encoding a r → a .outcome ≡ Done → (R : Ran caps (a .state) r calls s′ r′)
+    → Apartness (answers R)
+    → let L = rust-lists caps (roomsOf r) (a .state) noLists calls in
+    (p l : ℕ) → held (marksOf s′ r′) (commandsOf s′ r′) .uniform p l ≡ held (L .bytes) (L .commands) .uniform p l
+uniforms-of-run caps s₀ s′ r₀ r r′ a calls d e R P p l =
+    ap₂ (λ (b : List ℕ) (cs : List Command). held b cs .uniform p l) marks list
+    ∙ all-calls caps (roomsOf r) (a .state) noLists noLists calls tied (subst Apartness (answers-are caps R (B .within)) P) .kept .same p l
+  where
+    B : Begun caps r a
+    B = begun-run caps s₀ r₀ r a d e
+
+    list : commandsOf s′ r′ ≡ record-calls caps (roomsOf r) (record { state = a .state; list = [] }) calls .list
+    list = ran-records caps R (B .within) .1 ∙ ap (λ (cs : List Command). record-calls caps (roomsOf r) (record { state = a .state; list = cs }) calls .list) (B .nothing)
+
+    marks : marksOf s′ r′ ≡ mark-calls caps (roomsOf r) (a .state) [] calls
+    marks = ran-marks caps R (B .within) ∙ ap (λ (b : List ℕ). mark-calls caps (roomsOf r) (a .state) b calls) (B .unmarked)
+
+    tied : Tied (a .state) noLists noLists
+    tied = subst (λ (x : State). Tied x noLists noLists) (sym (d .state)) (began caps (roomsOf r₀) s₀ (ap accepted (sym (d .outcome) ∙ e)))
