@@ -93,21 +93,22 @@ flags-since t (c ∷ cs) = flags-since (flagAfter t (kindOf c)) cs ∙ go (kindO
     go other true = refl
     go other false = refl
 
-pub flag-is-history : (caps : PrivateCapabilities) (rooms : Rooms) (s : State) (calls : List Call) → carried caps rooms s begin-encoding ≡ true
-    → record-calls caps rooms (begun caps rooms s) calls .state .immediates .sent
-    ≡ some? (λ c. isWrite (kindOf c)) (sinceLast (acceptedOf (fed caps rooms (begun caps rooms s .state) calls)))
-flag-is-history caps rooms s calls e =
-    all-flags caps rooms (begun caps rooms s) calls
-    ∙ ap (λ (x : State). flags (x .immediates .sent) cs) (begun-state caps rooms s e)
-    ∙ flags-since false cs
-    ∙ go (news cs) refl
+-- from a state whose descriptors were not sent
+pub flag-from : (caps : PrivateCapabilities) (rooms : Rooms) (r : Recording) (calls : List Call) → r .state .immediates .sent ≡ false
+    → record-calls caps rooms r calls .state .immediates .sent ≡ some? (λ c. isWrite (kindOf c)) (sinceLast (acceptedOf (fed caps rooms (r .state) calls)))
+flag-from caps rooms r calls e = all-flags caps rooms r calls ∙ ap (λ (t : Bool). flags t cs) e ∙ flags-since false cs ∙ go (news cs) refl
   where
     cs : List Call
-    cs = acceptedOf (fed caps rooms (begun caps rooms s .state) calls)
+    cs = acceptedOf (fed caps rooms (r .state) calls)
 
     go : (t : Bool) → news cs ≡ t → cond t (written (sinceLast cs)) (written cs) ≡ written (sinceLast cs)
     go true q = refl
     go false q = ap written (sym (since-all cs q))
+
+pub flag-is-history : (caps : PrivateCapabilities) (rooms : Rooms) (s : State) (calls : List Call) → carried caps rooms s begin-encoding ≡ true
+    → record-calls caps rooms (begun caps rooms s) calls .state .immediates .sent
+    ≡ some? (λ c. isWrite (kindOf c)) (sinceLast (acceptedOf (fed caps rooms (begun caps rooms s .state) calls)))
+flag-is-history caps rooms s calls e = flag-from caps rooms (begun caps rooms s) calls (ap (λ (x : State). x .immediates .sent) (begun-state caps rooms s e))
 
 -- ---- the descriptors that were sent
 sent-quiet : (cs : List Command) → Each (λ (c : Command). effect c ≡ neither) cs → sentIn cs ≡ []

@@ -11,4 +11,5 @@ pub mod Appended
 pub mod Theorem
 pub mod RanUniforms
 pub mod History
+pub mod Sends
 pub mod Witness
