@@ -1,4 +1,4 @@
--- `set_immediates`: document 01, "Bindings and immediates". Definitions only.
+-- `set_immediates`: document 01, "Bindings and immediates", with document 02, request 6. Definitions only.
 use Prim.Native.Nat.{ℕ, zero, suc, _+_, _*_, _/_, _%_, _^_}
 use mathlib.Core.Bool.{Bool, true, false, cond, not, _&&_, _||_}
 use mathlib.Core.List.{List, [], _∷_, _++_}
@@ -16,7 +16,7 @@ overwritten old at ws = take at old ++ (ws ++ drop (at + length ws) old)
 abbrev pub descriptorsOf : ImmediateState → List ImmediateDesc
 descriptorsOf i = take (i .count) (i .descs)
 
--- the state's words after the call
+-- the state after the call: the words are written, and every descriptor has been sent since the last pipeline call
 abbrev pub immediatesState : ImmediateState → ℕ → List ℕ → ImmediateState
 immediatesState i offset ws = record { descs = i .descs; count = i .count; words = overwritten (i .words) (offset / 4) ws; sent = true }
 
@@ -45,6 +45,7 @@ sharesWord start end d =
 abbrev pub sends : Bool → ℕ → ℕ → ImmediateDesc → Bool
 sends sent start end d = sharesWord start end d || not sent
 
+-- those that pass a test, "in their order"
 unfoldable pub filter : (ImmediateDesc → Bool) → List ImmediateDesc → List ImmediateDesc
 filter f [] = []
 filter f (d ∷ ds) = cond (f d) (d ∷ filter f ds) (filter f ds)
