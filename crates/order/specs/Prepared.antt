@@ -24,8 +24,9 @@ use Rattle.records.specs.declared.pipeline.RenderPipeline.{RenderPipeline}
 use Rattle.records.specs.declared.state.VertexState.{VertexState}
 use Rattle.slots.specs.Vertex.{stepOf, isInstance, slotAt, descAt, bindingAt, instanceAt, attributesOf}
 use Rattle.slots.specs.Prepare.{moved, woken, rebound, cleared, instanceOffset, slotDesc, slotOffset, attributeOffset, slotsOf, sentOf, sent, preparedState}
+use Rattle.slots.specs.Places.{among-places}
 use Rattle.pipeline.specs.Vertex.{pipeDesc, attributesIn, has, stepsByInstance, vertexOutOfRange, vertexAbsent, vertexTwice}
-use Rattle.order.specs.Lists.{and-true, false-true, true-false, or-left, or-right, not-false, both-ways, some-none, none-some, among-places, Each, each-with, each-not, each-always}
+use Rattle.order.specs.Lists.{and-true, false-true, true-false, or-left, or-right, not-false, both-ways, some-none, none-some, Each, each-with, each-not, each-always}
 use Rattle.order.specs.Machine.{Attribute, VertexBuffer, Vertices, putAttribute, putBuffer}
 use Rattle.order.specs.Sweep.{folded, swept, unfolded, passed, sifted}
 use Rattle.order.specs.Invariant.{slotBuffer, attributeBuffer, Slots, Fetched}

@@ -22,10 +22,11 @@ use Rattle.records.specs.declared.command.OptionU32.the-variants.{None, Some}
 use Rattle.records.specs.declared.pipeline.PipelineInner.{PipelineInner}
 use Rattle.records.specs.declared.state.TextureSlotDesc.{TextureSlotDesc}
 use Rattle.records.specs.declared.state.BindState.{BindState}
+use Rattle.slots.specs.Places.{among-places}
 use Rattle.bindings.specs.Units.{unitAt, samplerAt, numberAt, resolve, takesOne, dirtyUnits}
 use Rattle.bindings.specs.Group.{Entry, entryState, groupState, isSampler, namesSampler, texturesNamed, samplersNamed, contentOutOfRange, entryOutOfRange, offsetsAfter}
 use Rattle.pipeline.specs.Inner.{isSome, valueOr, mapAt, changedUnits, innerBind}
-use Rattle.order.specs.Lists.{true-false, or-left, or-right, among-places, set-at}
+use Rattle.order.specs.Lists.{true-false, or-left, or-right, set-at}
 use Rattle.order.specs.Sweep.{folded, swept}
 use Rattle.order.specs.Machine.{Bindings, putSampler}
 use Rattle.order.specs.Book.{Bound}

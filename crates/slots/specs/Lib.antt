@@ -4,4 +4,5 @@ pub mod Step
 pub mod Sent
 pub mod Sweep
 pub mod Place
+pub mod Places
 pub mod Witness
