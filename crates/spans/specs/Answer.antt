@@ -18,10 +18,11 @@ use Rattle.records.specs.declared.pipeline.PrivateCapabilities.{PrivateCapabili
 use Rattle.records.specs.declared.state.State.{State}
 use Rattle.slots.specs.Prepare.{working}
 use Rattle.calls.proofs.Judged.{bad, none-holds}
+use Rattle.calls.specs.Planned.{noRooms}
 use Rattle.spans.specs.Exact.{always-exact, sometimes-exact}
 use Rattle.spans.specs.Place.{alwaysMask, sometimesMask, spanBy}
 use Rattle.spans.specs.Rebound.{low-described}
-use Rattle.spans.specs.Span.{Always, Sometimes, Exactly, noRuns, refusal, SpanOf, spanNumber, spanHolds, SmallestOf}
+use Rattle.spans.specs.Span.{Always, Sometimes, Exactly, refusal, SpanOf, spanNumber, spanHolds, SmallestOf}
 use Rattle.spans.specs.declared.Span.{Span}
 use Rattle.spans.specs.declared.Span.the-variants.{Masks, Broken, Reversed}
 
@@ -66,7 +67,7 @@ module _ (caps : PrivateCapabilities) (s : State) (lo hi : ℕ) where
 
   -- ---- the number of the answer is the smallest whose condition holds
   abbrev c : Conditions
-  c = stateConditions s noRuns
+  c = stateConditions s noRooms
 
   late : (k n : ℕ) → k < n → n ≤ 7 → holds c k ≡ false → spanHolds s lo hi k ≡ false
   late k n l m e = rw (e, ne-eqb k 15 (λ q. omega arith)) refl

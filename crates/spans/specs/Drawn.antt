@@ -1,39 +1,37 @@
 -- The draw that is made in the end, with a number of the span: what it hands back. Assumes nothing.
-use Prim.Native.Nat.{ℕ, zero, suc, _+_, _-_, _≤_, _<_}
+use Prim.Native.Nat.{ℕ, zero, suc, _+_, _-_, _≤_}
 use mathlib.Core.Path.{_≡_, refl, sym, ap, _∙_, subst}
-use mathlib.Core.Bool.{Bool, true, false, cond, not, _||_}
+use mathlib.Core.Bool.{Bool, true, false, cond, not}
 use mathlib.Core.List.{List, [], _∷_, _++_, map}
 use mathlib.Core.Logic.{_⊎_, inl, inr}
 use native.Mathlib.Nat.{le-of-suc-le-suc}
 use native.Mathlib.Omega.{arith}
-use lib.Dec.{ltb}
 use lib.ListN.{length, take, drop, length-map}
 use borrow.Author.Tests.{le-ltb}
 use Rattle.mask.specs.Mask.{testBit}
 use Rattle.records.specs.Check.{overRoom, brokenLimits, stateConditions}
-use Rattle.records.specs.Outcome.{accepted, smallest, noneHold}
+use Rattle.records.specs.Outcome.{accepted, smallest}
 use Rattle.records.specs.declared.check.Rooms.{Rooms}
 use Rattle.records.specs.declared.command.BufferBinding.{BufferBinding}
 use Rattle.records.specs.declared.command.Command.{Command}
 use Rattle.records.specs.declared.command.Command.the-variants.{SetVertexBuffer}
 use Rattle.records.specs.declared.command.Record.{Record}
 use Rattle.records.specs.declared.command.VertexBufferDesc.{VertexBufferDesc}
-use Rattle.records.specs.declared.outcome.Conditions.{Conditions}
 use Rattle.records.specs.declared.outcome.Outcome.{Outcome}
 use Rattle.records.specs.declared.outcome.Outcome.the-variants.{Done, Overflow, NoRoom}
 use Rattle.records.specs.declared.pipeline.PrivateCapabilities.{PrivateCapabilities}
 use Rattle.records.specs.declared.state.Answer.{Answer}
-use Rattle.records.specs.declared.state.Progress.{Progress}
 use Rattle.records.specs.declared.state.State.{State}
 use Rattle.slots.specs.Prepare.{working, bufferCommands, attributeCommands}
-use Rattle.calls.proofs.Judged.{bad, neither, none-holds, None, Within, within}
-use Rattle.calls.specs.Call.{Call, draw, draw-indexed}
+use Rattle.calls.proofs.Judged.{bad, neither, none-holds, None, within}
+use Rattle.calls.specs.Call.{Call, draw}
 use Rattle.calls.specs.Did.{Did, Runs, roomsOf, recordOf, written}
 use Rattle.calls.specs.Meaning.{Meaning, listRun}
 use Rattle.calls.specs.Parts.{withProgress}
 use Rattle.calls.specs.Step.{meaning, drawing, outcomeOf, conditionsOf, progressAfter}
+use Rattle.calls.specs.Planned.{noRooms}
 use Rattle.spans.specs.Rebound.{bound-bit, bit-bound}
-use Rattle.spans.specs.Span.{Binds, withLayout, rendering, Rebinds, noRuns, refusal, SpanOf, Draws, appended}
+use Rattle.spans.specs.Span.{Binds, rendering, Rebinds, refusal, SpanOf, Draws, appended}
 use Rattle.spans.specs.declared.Span.{Span}
 use Rattle.spans.specs.declared.Span.the-variants.{Masks, Broken, Reversed}
 
@@ -76,7 +74,7 @@ unfolding outcomeOf smallest
 left-over caps s rooms n c d ok o e =
     let x = drawing-of caps (rendering s) n c d in
     let m = drawing caps (rendering s) (working caps n) false (x .six) (x .own ∷ []) in
-    let k = none-holds (stateConditions s noRuns) ok in
+    let k = none-holds (stateConditions s noRooms) ok in
     go (conditionsOf rooms (rendering s) m .sum) (conditionsOf rooms (rendering s) m .room)
     (e ∙ ap (outcomeOf rooms (rendering s)) (x .means) ∙ rw (k .many, k .range, k .kind) refl)
   where

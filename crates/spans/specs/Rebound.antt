@@ -1,5 +1,5 @@
 -- A draw rebinds slot i exactly where bit i of the mask `rebound` is set. Assumes nothing.
-use Prim.Native.Nat.{ℕ, _^_, _≤_, _<_}
+use Prim.Native.Nat.{ℕ, _^_, _<_}
 use mathlib.Core.Path.{_≡_, refl, sym, ap, _∙_, subst}
 use mathlib.Core.Bool.{Bool, true, false, not, _&&_, _||_}
 use mathlib.Core.List.{List, [], _∷_, _++_, map}
@@ -24,8 +24,9 @@ use Rattle.slots.specs.Vertex.{instanceAt}
 use Rattle.slots.specs.Places.{among-places, none-past}
 use Rattle.slots.specs.Prepare.{working, moved, woken, rebound, bufferCommand, bufferCommands}
 use Rattle.calls.proofs.Judged.{bad, none-holds}
+use Rattle.calls.specs.Planned.{noRooms}
 use Rattle.spans.specs.Place.{wakes}
-use Rattle.spans.specs.Span.{StandsIn, Binds, Rebinds, noRuns, refusal}
+use Rattle.spans.specs.Span.{StandsIn, Binds, Rebinds, refusal}
 
 -- a place of a mask lies below 32
 below-32 : (m i : ℕ) → among i (places m) ≡ true → i < 32
@@ -80,7 +81,7 @@ module _ (v : VertexState) (w : ℕ) where
 -- ---- a state that is not broken has no slot from 16 on
 pub low-described : (s : State) → accepted (refusal s) ≡ true → s .vertex .described < 2 ^ 16
 low-described s e =
-    let n = none-holds (stateConditions s noRuns) e in
+    let n = none-holds (stateConditions s noRooms) e in
     let units = badUnits (s .bind .sampled) 0 (s .bind .«texture_slots») in
     let m = last (some? badAttribute (attributesOf s)) units (some? badDescriptor (descriptorsOf s)) (some? badResolve (resolvesOf s)) (badMasks s) (n .range) in
     leb-false (2 ^ 16) (s .vertex .described) (first (badMask (s .vertex .described)) rest m)

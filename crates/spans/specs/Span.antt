@@ -12,7 +12,6 @@ use lib.ListN.{take, drop}
 use Rattle.mask.specs.Mask.{testBit}
 use Rattle.records.specs.Outcome.{accepted, holds, number, smallest}
 use Rattle.records.specs.Check.{stateConditions}
-use Rattle.records.specs.declared.check.Rooms.{Rooms}
 use Rattle.records.specs.declared.command.Command.{Command}
 use Rattle.records.specs.declared.command.Command.the-variants.{SetVertexBuffer}
 use Rattle.records.specs.declared.command.BufferBinding.{BufferBinding}
@@ -25,6 +24,7 @@ use Rattle.records.specs.declared.state.Phase.the-variants.{Render}
 use Rattle.records.specs.declared.state.State.{State}
 use Rattle.calls.specs.Call.{Call, draw, draw-indexed}
 use Rattle.calls.specs.Parts.{withProgress}
+use Rattle.calls.specs.Planned.{noRooms}
 use Rattle.calls.specs.Step.{meaning}
 use Rattle.spans.specs.declared.Span.{Span}
 use Rattle.spans.specs.declared.Span.the-variants.{Masks, Broken, Reversed}
@@ -74,13 +74,9 @@ pub record Exactly (m : ℕ) (P : ℕ → Type 0) : Type 0 where
   pub whole : (i : ℕ) → P i → testBit m i ≡ true
 
 -- ---- the answers
--- no run is lent: the counts are held to the limits of document 01 alone
-abbrev pub noRuns : Rooms
-noRuns = record { commands = 4096; bytes = 65536; queries = 1024 }
-
--- the answers "of a broken state": 2, 3, 5 or 7
+-- the answers "of a broken state": 2, 3, 5 or 7; no run is lent, so 7 is about the limits alone
 abbrev pub refusal : State → Outcome
-refusal s = smallest (stateConditions s noRuns)
+refusal s = smallest (stateConditions s noRooms)
 
 -- "15, a lower number above the upper, after those of a broken state"
 abbrev pub SpanOf : PrivateCapabilities → State → ℕ → ℕ → Span → Type 0
@@ -97,7 +93,7 @@ spanNumber Reversed = 15
 
 -- condition n holds: those of a broken state by document 01's numbers, and 15
 abbrev pub spanHolds : State → ℕ → ℕ → ℕ → Bool
-spanHolds s lower upper n = holds (stateConditions s noRuns) n || (eqb n 15 && ltb upper lower)
+spanHolds s lower upper n = holds (stateConditions s noRooms) n || (eqb n 15 && ltb upper lower)
 
 -- n is the smallest number whose condition holds, or none holds and n is 0
 abbrev pub SmallestOf : State → ℕ → ℕ → ℕ → Type 0

@@ -1,6 +1,6 @@
 -- Answers of one state at several spans, and draws from it, worked out. Assumes nothing.
 use Prim.Native.Nat.{ℕ}
-use mathlib.Core.Path.{_≡_, refl, sym, subst}
+use mathlib.Core.Path.{_≡_, refl}
 use mathlib.Core.Bool.{Bool, true, false}
 use mathlib.Core.List.{List, [], _∷_, map}
 use lib.ListN.{replicate}
@@ -23,10 +23,11 @@ use Rattle.records.specs.declared.state.Phase.the-variants.{Closed, Render}
 use Rattle.records.specs.declared.state.State.{State}
 use Rattle.slots.specs.Prepare.{bufferCommands, attributeCommands, sentOf}
 use Rattle.calls.specs.Call.{draw}
-use Rattle.calls.specs.Step.{outcomeOf, Step, step}
+use Rattle.calls.specs.Step.{outcomeOf, step}
+use Rattle.calls.specs.Planned.{noRooms}
 use Rattle.spans.specs.Answer.{by-span}
 use Rattle.spans.specs.Place.{spanBy}
-use Rattle.spans.specs.Span.{SpanOf, spanNumber, noRuns}
+use Rattle.spans.specs.Span.{SpanOf, spanNumber}
 use Rattle.spans.specs.declared.Span.{Span}
 use Rattle.spans.specs.declared.Span.the-variants.{Masks, Broken, Reversed}
 
@@ -144,7 +145,7 @@ draws =
 
 abbrev drew : Drawn → Drawn
 drew d =
-    let t = step (d .caps) noRuns held (draw 0 3 (d .first) 1) in
+    let t = step (d .caps) noRooms held (draw 0 3 (d .first) 1) in
     drawnRow (d .caps) (d .first) (t .outcome) (t .commands)
 
 drawn-rows : map drew draws ≡ draws
