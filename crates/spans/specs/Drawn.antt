@@ -1,12 +1,12 @@
 -- The draw that is made in the end, with a number of the span: what it hands back. Assumes nothing.
-use Prim.Native.Nat.{ℕ, zero, suc, _+_, _-_, _≤_}
+use Prim.Native.Nat.{ℕ, _+_, _-_, _≤_}
 use mathlib.Core.Path.{_≡_, refl, sym, ap, _∙_, subst}
 use mathlib.Core.Bool.{Bool, true, false, cond, not}
 use mathlib.Core.List.{List, [], _∷_, _++_, map}
 use mathlib.Core.Logic.{_⊎_, inl, inr}
-use native.Mathlib.Nat.{le-of-suc-le-suc}
 use native.Mathlib.Omega.{arith}
 use lib.ListN.{length, take, drop, length-map}
+use lib.Seq.{take-at, drop-at, length-take-le}
 use borrow.Author.Tests.{le-ltb}
 use Rattle.mask.specs.Mask.{testBit}
 use Rattle.records.specs.Check.{overRoom, brokenLimits, stateConditions}
@@ -84,15 +84,6 @@ left-over caps s rooms n c d ok o e =
     go false false q = inl q
 
 -- ---- lists
-drop-front : {A : Type 0} (p : ℕ) (l k : List A) → p ≤ length l → drop p (take p l ++ k) ≡ k
-drop-front zero l k h = refl
-drop-front (suc p) [] k h = absurd (omega arith)
-drop-front (suc p) (x ∷ l) k h = drop-front p l k (le-of-suc-le-suc h)
-
-take-front : {A : Type 0} (l k : List A) → take (length l) (l ++ k) ≡ l
-take-front [] k = refl
-take-front (x ∷ l) k = ap (λ (y : List _). x ∷ y) (take-front l k)
-
 commands-of : (cs : List Command) → map (λ (r : Record). r .command) (map recordOf cs) ≡ cs
 commands-of [] = refl
 commands-of (c ∷ cs) = ap (λ (l : List Command). c ∷ l) (commands-of cs)
@@ -101,9 +92,8 @@ commands-of (c ∷ cs) = ap (λ (l : List Command). c ∷ l) (commands-of cs)
 written-there : (run : List Record) (p : ℕ) (cs : List Command) → p ≤ length run
     → map (λ (r : Record). r .command) (take (length cs) (drop p (written run p (map recordOf cs)))) ≡ cs
 written-there run p cs h =
-    ap (λ (l : List Record). map (λ (r : Record). r .command) (take (length cs) l)) (drop-front p run _ h)
-    ∙ ap (λ (k : ℕ). map (λ (r : Record). r .command) (take k (map recordOf cs ++ drop (p + length (map recordOf cs)) run))) (sym (length-map cs recordOf))
-    ∙ ap (map (λ (r : Record). r .command)) (take-front (map recordOf cs) _)
+    ap (λ (l : List Record). map (λ (r : Record). r .command) (take (length cs) l)) (drop-at (take p run) _ p (length-take-le p run h))
+    ∙ ap (map (λ (r : Record). r .command)) (take-at (map recordOf cs) _ (length cs) (length-map cs recordOf))
     ∙ commands-of cs
 
 -- ---- a draw that is carried through
