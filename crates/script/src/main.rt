@@ -1,22 +1,11 @@
 // Reads sessions in the flat form from standard input, one after another, and prints for each its
 // lists, its state and its answers: the form of tools/oracle/README.md.
 
-mod header;
-mod input;
 mod run;
 
-use crate::header::Header;
-use crate::header::take_header;
-use crate::input::Input;
-use crate::input::MAX_TURNS;
-use crate::input::counted;
-use crate::input::new_input;
-use crate::input::next_line;
-use crate::input::turns_left;
 use crate::run::Tally;
 use crate::run::call_of;
 use crate::run::first_tally;
-use crate::run::played_length;
 use crate::run::put_open_list;
 use crate::run::state_after;
 use crate::run::told;
@@ -30,20 +19,21 @@ use played::print::put_error;
 use played::print::put_state;
 use records::check::within;
 use records::state::State;
+use sessions::header::Header;
+use sessions::header::take_header;
+use sessions::input::Input;
+use sessions::input::MAX_TURNS;
+use sessions::input::line_number;
+use sessions::input::new_input;
+use sessions::input::next_line;
+use sessions::input::turns_left;
+use sessions::verdict::played_length;
 
 // Where the reading stands, how much of the output buffer is used, and whether there is more.
 struct Place {
     input: Input,
     used: usize,
     more: bool,
-}
-
-// The number of the line that is being read.
-fn line_number(input: Input) -> u64 {
-    if input.there {
-        return input.number;
-    }
-    counted(input.number)
 }
 
 // The last line of a session: `===`, or what is wrong.

@@ -1,21 +1,19 @@
 // The parts of a session: what a line's call comes to, and its lists as they are finished.
-ghost use Prim.Native.Nat.{_≤_};
-use crate::input::Input;
 use calls::phase::in_closed;
 use flat::cursor::Cursor;
-use flat::cursor::Wanted;
 use flat::cursor::is_right;
 use flat::cursor::start;
 use played::print::Output;
 use played::print::put_bytes;
 use played::print::put_divider;
 use played::print::put_queries;
-use records::check::within;
 use records::outcome::Outcome;
 use records::outcome::number_of;
 use records::state::Phase;
 use records::state::Progress;
 use records::state::State;
+use sessions::input::Input;
+use sessions::verdict::verdict;
 
 // How far a session has come, beside its state: whether a list is finished, the output, the input,
 // how many calls are played, and what is wrong with the last line, if anything is.
@@ -75,27 +73,6 @@ fn put_list_end(
         return Output { used, divide: true };
     }
     output
-}
-
-// How much of a line is played: nothing of one that is too long.
-pub fn played_length(long: bool, length: usize, most: usize) -> usize
-    ensures { λ r. ⌜ r ≤ most ⌝ }
-{
-    if long {
-        return 0;
-    }
-    within(length, most)
-}
-
-// What is wrong with a line: it is too long where it does not fit any more.
-fn verdict(long: bool, length: usize, next: Cursor) -> Cursor {
-    if long {
-        return Cursor {
-            at: length,
-            wanted: Wanted::End,
-        };
-    }
-    next
 }
 
 // The state after a call, or before it where its line is wrong.

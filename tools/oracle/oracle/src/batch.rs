@@ -38,7 +38,7 @@ fn board(n: u64, even: bool) -> Caps {
 }
 
 /// The expected number of each call anew; how many are refused.
-fn judge(s: &mut Script, rule: Rule) -> usize {
+pub fn judge(s: &mut Script, rule: Rule) -> usize {
     let mut m = Model::by(rule, s.caps, s.room);
     for at in 0..s.calls.len() {
         let full = s.full(at);

@@ -1,5 +1,8 @@
 // Lines of standard input, through a buffer.
-ghost use Prim.Native.Nat.{_<_};
+ghost use mathlib.Core.Path.{_≡_};
+ghost use Prim.Native.Nat.{_≤_, _<_};
+ghost use lib.ListN.{length};
+ghost use Rattle.sessions.specs.Reading.{noLine, nextNumber, lineNumber};
 use libc::STDIN_FILENO;
 use records::check::within;
 
@@ -18,7 +21,9 @@ pub struct Input {
     pub over: bool,
 }
 
-pub fn new_input() -> Input {
+pub fn new_input() -> Input
+    ensures { λ r. ⌜ r ≡ noLine ⌝ }
+{
     Input {
         start: 0,
         end: 0,
@@ -74,12 +79,24 @@ fn pull(buffer: &[u8], line: &mut [u8], input: Input) -> Input {
 }
 
 // The line after `number`.
-pub fn counted(number: u64) -> u64 {
+pub fn counted(number: u64) -> u64
+    ensures { λ r. ⌜ r ≡ nextNumber number ⌝ }
+{
     if number < 18446744073709551615 {
         number + 1
     } else {
         number
     }
+}
+
+// The number of the line that is being read.
+pub fn line_number(input: Input) -> u64
+    ensures { λ r. ⌜ r ≡ lineNumber input ⌝ }
+{
+    if input.there {
+        return input.number;
+    }
+    counted(input.number)
 }
 
 fn step(buffer: &mut [u8], line: &mut [u8], input: Input) -> Input {
@@ -100,7 +117,9 @@ fn begun(input: Input) -> Input {
 }
 
 // After a line is read. The last one may have no end.
-fn ended(input: Input, most: usize) -> Input {
+fn ended(input: Input, most: usize) -> Input
+    ensures { λ r. ⌜ r .length ≤ most ⌝ }
+{
     let mut next = input;
     next.there = input.there | (0 < input.length);
     if next.there {
@@ -122,7 +141,9 @@ pub fn turns_left(turns: usize, done: bool) -> usize
 }
 
 // The next line, without its end.
-pub fn next_line(buffer: &mut [u8], line: &mut [u8], input: Input) -> Input {
+pub fn next_line(buffer: &mut [u8], line: &mut [u8], input: Input) -> Input
+    ensures { λ r. ⌜ r .length ≤ length (now (line .entry)) ⌝ }
+{
     let mut next = begun(input);
     let mut turns = turns_left(MAX_TURNS, next.over);
     while 0 < turns {

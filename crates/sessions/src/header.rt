@@ -1,4 +1,5 @@
 // The first line of a session: the board, the rooms and the number of calls.
+ghost use Prim.Native.Nat.{_≤_};
 use flat::cursor::Cursor;
 use flat::cursor::closed;
 use flat::cursor::start;
@@ -42,7 +43,14 @@ fn take_board(line: &[u8], c: Cursor) -> Board {
 }
 
 // A session may have `most` calls.
-pub fn take_header(line: &[u8], most: usize) -> Header {
+pub fn take_header(line: &[u8], most: usize) -> Header
+    ensures { λ r. ⌜
+        (r .commands ≤ 4096)
+        × (r .bytes ≤ 65536)
+        × (r .queries ≤ 1024)
+        × (r .calls ≤ most)
+        ⌝ }
+{
     let board = take_board(line, start());
     let caps = board.caps;
     let at_commands = board.next;

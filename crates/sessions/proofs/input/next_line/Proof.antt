@@ -1,9 +1,9 @@
--- `script::input::next_line` is safe and ends. Invariant: the runs keep their lengths. Measure: the turns left. Assumes nothing.
+-- `sessions::input::next_line` is safe and ends. Invariant: the runs keep their lengths. Measure: the turns left. Assumes nothing.
 use mathlib.Core.Path.{_≡_, refl, _∙_}
 use lib.ListN.{length}
 use borrow.Author.Needs.{needs}
-use Rattle.script.proofs.input.next_line.Statement.{statement}
-use Rattle.script.proofs.input.next_line.Tie as tie
+use Rattle.sessions.proofs.input.next_line.Statement.{statement}
+use Rattle.sessions.proofs.input.next_line.Tie as tie
 
 abbrev Inv-loop : tie.InvT-loop
 Inv-loop buffer₀ line₀ next₀ turns₀ buffer line next turns =
