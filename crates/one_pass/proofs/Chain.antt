@@ -13,7 +13,7 @@ use Rattle.calls.specs.Call.{begin-encoding, begin-render-pass, set-render-pipe
 use Rattle.calls.specs.Did.{Keeps}
 use Rattle.one_pass.specs.Kept.{KeptLists, KeptMarks}
 use Rattle.one_pass.specs.declared.kept.Kept.{Kept}
-use Rattle.order.specs.Ran.{Ran, done, then}
+use Rattle.book.specs.Ran.{Ran, done, then}
 use Rattle.one_pass.specs.Script.{passOf, runsOf, Shoots, Records}
 use Rattle.one_pass.specs.declared.Shot.{Shot}
 

@@ -13,12 +13,12 @@ use Rattle.calls.specs.Did.{Did, Runs, roomsOf}
 use Rattle.calls.specs.Step.{step, outcomeOf}
 use Rattle.one_pass.specs.declared.kept.Kept.{Kept}
 use Rattle.calls.proofs.Listed.{keeps-done}
-use Rattle.order.specs.Machine.{fresh, play}
-use Rattle.order.specs.Book.{empty, bookOf}
-use Rattle.order.specs.Induction.{found}
-use Rattle.order.specs.Run.{Premises, begun}
-use Rattle.order.specs.Theorem.{named}
-use Rattle.order.specs.Ran.{answers, commandsOf, order-of-run}
+use Rattle.machine.specs.Machine.{fresh, play}
+use Rattle.book.specs.Book.{empty, bookOf}
+use Rattle.book.specs.FirstPass.{found, named}
+use Rattle.book.specs.Run.{Premises, begun}
+use Rattle.book.specs.Ran.{answers, commandsOf}
+use Rattle.order.proofs.OfRun.{order-of-run}
 use Rattle.one_pass.specs.Script.{runsOf, Records}
 
 -- `begin_encoding` is handed no run and appends nothing

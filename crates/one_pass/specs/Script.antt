@@ -12,8 +12,8 @@ use Rattle.pass.specs.Marks.{Lent, Label}
 use Rattle.calls.specs.Call.{Call, begin-render-pass, set-render-pipeline, set-vertex-buffer, draw, end-render-pass, end-encoding}
 use Rattle.calls.specs.Did.{Runs, roomsOf}
 use Rattle.one_pass.specs.declared.kept.Kept.{Kept}
-use Rattle.order.specs.Run.{begun}
-use Rattle.order.specs.Ran.{Ran}
+use Rattle.book.specs.Run.{begun}
+use Rattle.book.specs.Ran.{Ran}
 use Rattle.one_pass.specs.declared.Shot.{Shot}
 
 -- a draw from a vertex buffer, and the ends of the pass and of the list

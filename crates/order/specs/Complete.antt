@@ -2,9 +2,9 @@
 use mathlib.Core.Path.{_≡_}
 use mathlib.Core.Bool.{true}
 use mathlib.Core.Option.{Option, none, some}
-use Rattle.order.specs.View.{Fetch, View}
-use Rattle.order.specs.Book.{known}
-use Rattle.order.specs.Lists.{Each}
+use Rattle.machine.specs.View.{Fetch, View}
+use Rattle.book.specs.Book.{known}
+use Rattle.machine.specs.Each.{Each}
 
 -- a fetch with a source
 abbrev pub Sourced : Option Fetch → Type 0

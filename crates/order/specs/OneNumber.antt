@@ -15,8 +15,8 @@ use Rattle.slots.specs.Prepare.{working}
 use Rattle.calls.specs.Call.{Call, begin-encoding, end-encoding, begin-render-pass, end-render-pass, begin-compute-pass, end-compute-pass, transition-buffers, transition-textures, clear-buffer, copy-buffer-to-buffer, copy-query-results, begin-query, end-query, write-timestamp, reset-queries, set-bind-group, set-immediates, set-render-pipeline, set-compute-pipeline, set-index-buffer, set-vertex-buffer, set-viewport, set-scissor-rect, set-stencil-reference, set-blend-constants, draw, draw-indexed, draw-indirect, draw-indexed-indirect, dispatch-workgroups, dispatch-workgroups-indirect}
 use Rattle.calls.specs.Parts.{withVertex}
 use Rattle.calls.specs.Step.{step}
-use Rattle.order.specs.Book.{Fed, describes, known}
-use Rattle.order.specs.Run.{carried, Recording, record-call}
+use Rattle.book.specs.Book.{Fed, describes, known}
+use Rattle.book.specs.Run.{carried, Recording, record-call}
 
 -- ---- the Rust's rule: one number, `active_first_instance` of gles/command.rs
 -- the state as it is by that rule: every slot has the number
@@ -77,7 +77,7 @@ nextNumber caps rooms s n c = cond (carried caps rooms (numbered n s) c) (number
 unfoldable pub rust-calls : PrivateCapabilities → Rooms → Recording → ℕ → List Call → Recording
 rust-calls caps rooms r n [] = r
 rust-calls caps rooms r n (c ∷ cs) =
-    rust-calls caps rooms (record-call caps rooms (record { state = numbered n (r .state); list = r .list }) c) (nextNumber caps rooms (r .state) n c) cs
+    rust-calls caps rooms (record-call caps rooms (record { state = numbered n (r .state); list = r .list; bytes = r .bytes; queries = r .queries }) c) (nextNumber caps rooms (r .state) n c) cs
 
 unfoldable pub rust-fed : PrivateCapabilities → Rooms → State → ℕ → List Call → List Fed
 rust-fed caps rooms s n [] = []

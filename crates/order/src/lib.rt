@@ -1,2 +1,1 @@
-// The GL machine, the book of document 01 and the order theorem: only definitions and proofs, in
-// specs/.
+// The order theorem: what is claimed in specs/Claim.antt, and its proof, in proofs/.

@@ -18,8 +18,8 @@ use Rattle.text.specs.Field.{spaced}
 use Rattle.text.specs.Command.{lineOf}
 use Rattle.calls.specs.Call.{Call, set-vertex-buffer, draw}
 use Rattle.calls.specs.Step.{outcomeOf}
-use Rattle.order.specs.Run.{record-calls, begun}
-use Rattle.order.specs.Samples.{emulated, rooms, barePass}
+use Rattle.book.specs.Run.{record-calls, begun}
+use Rattle.cases.specs.Samples.{emulated, rooms, barePass}
 
 -- "an unlabelled 4 by 3 pass without attachments, slot 0 bound, then `draw(0,3,0,1)`"
 abbrev pub example : List Call

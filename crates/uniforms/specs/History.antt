@@ -11,14 +11,15 @@ use Rattle.records.specs.declared.command.ImmediateDesc.{ImmediateDesc}
 use Rattle.records.specs.declared.pipeline.PrivateCapabilities.{PrivateCapabilities}
 use Rattle.records.specs.declared.state.ImmediateState.{ImmediateState}
 use Rattle.records.specs.declared.state.State.{State}
-use Rattle.bindings.specs.Immediates.{descriptorsOf, immediatesState, sharesWord, sends, sentDescriptors, immediateCommands}
+use Rattle.bindings.specs.Immediates.{descriptorsOf, immediatesState, sharesWord, sentDescriptors, immediateCommands}
 use Rattle.pass.specs.Marks.{Lent, counted}
 use Rattle.calls.specs.Call.{Call, begin-encoding}
 use Rattle.calls.specs.Meaning.{Meaning}
 use Rattle.calls.specs.Parts.{withProgress}
 use Rattle.calls.specs.Step.{meaning, progressAfter, step}
-use Rattle.order.specs.Lists.{Each, true-false}
-use Rattle.order.specs.Run.{carried, Recording, record-call, record-calls, fed, begun}
+use Rattle.machine.specs.Each.{Each}
+use Rattle.machine.proofs.Lists.{true-false}
+use Rattle.book.specs.Run.{carried, Recording, record-call, record-calls, fed, begun}
 use Rattle.uniforms.specs.Uniforms.{Effect, neither, effect}
 use Rattle.uniforms.specs.Rust.{Kind, begins, pipes, writes, other, kindOf}
 use Rattle.uniforms.specs.Since.{renews, isWrite, acceptedOf, sinceLast, sentBy, sentIn, sentSince}

@@ -14,7 +14,8 @@ use Rattle.records.specs.declared.state.ImmediateState.{ImmediateState}
 use Rattle.bindings.specs.Immediates.{overwritten, descriptorsOf, bytesOf, sharesWord, sends, filter}
 use Rattle.bindings.specs.Placed.{Good, good-cons}
 use Rattle.pipeline.specs.Inner.{innerDescriptors, innerImmediates}
-use Rattle.order.specs.Lists.{Each, false-true, or-left, or-right, not-false}
+use Rattle.machine.specs.Each.{Each}
+use Rattle.machine.proofs.Lists.{false-true, or-left, or-right, not-false}
 use Rattle.uniforms.specs.Uniforms.{Machine, fresh}
 use Rattle.uniforms.specs.Rust.{Apart}
 use Rattle.uniforms.specs.Words.{overwritten-long, unshared}

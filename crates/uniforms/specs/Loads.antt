@@ -10,7 +10,8 @@ use lib.Dec.{eqb}
 use Rattle.tables.specs.Tabulate.{upd, upd-same, upd-other}
 use Rattle.records.specs.declared.command.ImmediateDesc.{ImmediateDesc}
 use Rattle.bindings.specs.Immediates.{bytesOf, wordsOf, filter}
-use Rattle.order.specs.Lists.{Each, each-with}
+use Rattle.machine.specs.Each.{Each}
+use Rattle.machine.proofs.Lists.{each-with}
 use Rattle.uniforms.specs.Uniforms.{Value, Uniforms, load}
 use Rattle.uniforms.specs.Rust.{Apart}
 

@@ -21,8 +21,8 @@ use Rattle.calls.specs.Parts.{withProgress, drawArgs}
 use Rattle.calls.specs.Settings.{referenced}
 use Rattle.calls.specs.Transfers.{bufferBarriers, regionsOf}
 use Rattle.calls.specs.Step.{setImmediates, meaning, progressAfter}
-use Rattle.order.specs.Lists.{or-right}
-use Rattle.order.specs.Run.{carried, begun}
+use Rattle.machine.proofs.Lists.{or-right}
+use Rattle.book.specs.Run.{carried, begun}
 use Rattle.uniforms.specs.Rust.{Kind, begins, pipes, writes, other, kindOf}
 use Rattle.uniforms.specs.Plays.{Acts, inUse}
 use Rattle.uniforms.specs.Quiet.{Quiet, quiet-nil, quiet-one, quiet-begin-render, quiet-begin-compute, quiet-end-compute, quiet-end-render, quiet-buffers, quiet-textures, quiet-copies, quiet-dispatch, quiet-group, quiet-drawing, quiet-indirect, quiet-indexed, quiet-funcs, acts-inner, acts-pipeline}

@@ -13,7 +13,7 @@ use Rattle.records.specs.declared.command.Command.the-variants.{SetProgram}
 use Rattle.records.specs.declared.command.ImmediateDesc.{ImmediateDesc}
 use Rattle.bindings.specs.Immediates.{bytesOf, wordsOf, immediateCommands, immediateBytes}
 use Rattle.bindings.specs.Placed.{Good, good-cons, bytes-long, words-all}
-use Rattle.order.specs.Lists.{Each}
+use Rattle.machine.specs.Each.{Each}
 use Rattle.uniforms.specs.Uniforms.{Machine, Effect, uses, loads, neither, load, effect, exec, play}
 use Rattle.uniforms.specs.Loads.{loaded}
 

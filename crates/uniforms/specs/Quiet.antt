@@ -57,7 +57,7 @@ use Rattle.pass.specs.Marks.{Lent, Label, queryAt, timestamp, beginTimestamp, p
 use Rattle.pass.specs.Render.{placesOf, defaultFirst, toExternal, resolvesInPlace, viewOr, attachColor, depthPoint, extentRect, fullDepth, attachPlace, attachColors, attachDepth, attachments, clearColor, clearPlace, clearColors, clearBoth, clearDepth, clears, beginRenderCommands, resolveCommand, endRenderCommands}
 use Rattle.calls.specs.Draws.{DrawArgs, indexType, indirectCommands, indexedIndirectCommands}
 use Rattle.calls.specs.Transfers.{Barrier, synchronizes, textureUses, bufferBarrierCommands, textureBarrierCommands, onBoard, copyCommand, dispatchCommands}
-use Rattle.order.specs.Lists.{Each}
+use Rattle.machine.specs.Each.{Each}
 use Rattle.uniforms.specs.Uniforms.{Machine, Effect, neither, effect, exec, play}
 use Rattle.uniforms.specs.Plays.{Inside, Within, each-append, Acts, acts-append, inUse, acts-uses}
 

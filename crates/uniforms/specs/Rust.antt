@@ -2,7 +2,7 @@
 -- Both lists are made from the same calls, and the same ones are carried through: the Rust has no limits of its own.
 use Prim.Native.Nat.{ℕ, _+_, _/_}
 use mathlib.Core.Path.{_≡_}
-use mathlib.Core.Bool.{Bool, true, cond}
+use mathlib.Core.Bool.{true, cond}
 use mathlib.Core.List.{List, [], _∷_, _++_}
 use lib.ListN.{take, length}
 use Rattle.records.specs.declared.check.Rooms.{Rooms}
@@ -18,9 +18,9 @@ use Rattle.calls.specs.Call.{Call, begin-encoding, end-encoding, begin-render-p
 use Rattle.calls.specs.Meaning.{Meaning}
 use Rattle.calls.specs.Parts.{withProgress}
 use Rattle.calls.specs.Step.{meaning, step}
-use Rattle.order.specs.Lists.{Each}
-use Rattle.order.specs.Book.{Fed}
-use Rattle.order.specs.Run.{carried, record-calls, mark-calls, begun}
+use Rattle.machine.specs.Each.{Each}
+use Rattle.book.specs.Book.{Fed}
+use Rattle.book.specs.Run.{carried, record-calls, begun}
 use Rattle.uniforms.specs.Uniforms.{Machine, held}
 
 -- what a call is to the immediates: it starts a new list, brings a pipeline's descriptors, writes words, or neither
@@ -106,7 +106,9 @@ noLists = record { commands = []; bytes = [] }
 
 -- ---- what the machine holds after the calls that follow an accepted `begin_encoding`: by this recorder's list, and by the Rust's
 abbrev pub ours : PrivateCapabilities → Rooms → State → List Call → Machine
-ours caps rooms s calls = held (mark-calls caps rooms (begun caps rooms s .state) [] calls) (record-calls caps rooms (begun caps rooms s) calls .list)
+ours caps rooms s calls =
+    let r = record-calls caps rooms (begun caps rooms s) calls in
+    held (r .bytes) (r .list)
 
 abbrev pub rusts : PrivateCapabilities → Rooms → State → List Call → Machine
 rusts caps rooms s calls =

@@ -1,8 +1,8 @@
 -- Document 02, request 6: "exactly the descriptors that share a written word or were not sent since the last pipeline call", word for word, in every state that calls leave. Assumes nothing.
 use Prim.Native.Nat.{ℕ, _+_, _/_, _≤_, _<_}
-use mathlib.Core.Path.{_≡_, refl, sym, ap, _∙_, subst}
+use mathlib.Core.Path.{_≡_, refl, sym, ap, subst}
 use mathlib.Core.Bool.{Bool, true, false, not, _||_}
-use mathlib.Core.List.{List, [], _∷_, List·Memᴰ, List·Memᴰ·not-nil}
+use mathlib.Core.List.{List, [], List·Memᴰ, List·Memᴰ·not-nil}
 use mathlib.Core.Logic.{_⊎_, inl, inr, _↔_}
 use Rattle.records.specs.declared.check.Rooms.{Rooms}
 use Rattle.records.specs.declared.command.ImmediateDesc.{ImmediateDesc}
@@ -12,8 +12,9 @@ use Rattle.records.specs.declared.state.State.{State}
 use Rattle.bindings.specs.Immediates.{descriptorsOf, sharesWord, sends}
 use Rattle.bindings.specs.Shared.{shares-one, shared-yes}
 use Rattle.calls.specs.Call.{Call, begin-encoding}
-use Rattle.order.specs.Lists.{Each, each-always, each-with}
-use Rattle.order.specs.Run.{carried, record-calls, begun}
+use Rattle.machine.specs.Each.{Each}
+use Rattle.machine.proofs.Lists.{each-always, each-with}
+use Rattle.book.specs.Run.{carried, record-calls, begun}
 use Rattle.uniforms.specs.Since.{sentSince}
 use Rattle.uniforms.specs.History.{sent-is-each}
 

@@ -9,8 +9,8 @@ use Rattle.records.specs.declared.pipeline.PrivateCapabilities.{PrivateCapabili
 use Rattle.records.specs.declared.state.State.{State}
 use Rattle.calls.specs.Call.{Call}
 use Rattle.calls.specs.Step.{meaning, step}
-use Rattle.order.specs.Book.{Fed}
-use Rattle.order.specs.Run.{carried}
+use Rattle.book.specs.Book.{Fed}
+use Rattle.book.specs.Run.{carried}
 use Rattle.uniforms.specs.Uniforms.{Effect, uses, loads, neither, effect}
 use Rattle.uniforms.specs.Rust.{Kind, begins, pipes, writes, other, kindOf}
 

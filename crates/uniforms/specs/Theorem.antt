@@ -29,9 +29,10 @@ use Rattle.calls.specs.Call.{Call, begin-encoding}
 use Rattle.calls.specs.Meaning.{Meaning}
 use Rattle.calls.specs.Parts.{withProgress}
 use Rattle.calls.specs.Step.{setImmediates, meaning, progressAfter, conditionsOf, outcomeOf, step}
-use Rattle.order.specs.Lists.{Each, each-always, each-with, or-left, or-right}
-use Rattle.order.specs.Accepted.{passes, in-range}
-use Rattle.order.specs.Run.{carried, record-call, record-calls, mark-call, mark-calls, fed, begun}
+use Rattle.machine.specs.Each.{Each}
+use Rattle.machine.proofs.Lists.{each-always, each-with, or-left, or-right}
+use Rattle.order.proofs.Accepted.{passes, in-range}
+use Rattle.book.specs.Run.{carried, Recording, record-call, record-calls, fed, begun}
 use Rattle.uniforms.specs.Uniforms.{Machine, fresh, play}
 use Rattle.uniforms.specs.Rust.{Kind, begins, pipes, writes, other, kindOf, Lists, counting, rustDescriptors, rustAppends, rust-call, rust-lists, noLists, ours, rusts, ApartIn, Apartness}
 use Rattle.uniforms.specs.Loads.{valueOf, filter-all}
@@ -148,10 +149,17 @@ by-kind other s o r m n T M N range room a =
     (after-acts (counting r s) r n (appends n) (λ x. x) (rust-sound s o r T) (N .progress) (acts-quiet (N .quiet)))
     (M .immediates) (T .kept)
 
-one-call : (caps : PrivateCapabilities) (rooms : Rooms) (s : State) (o r : Lists) (c : Call) → Tied s o r → (carried caps rooms s c ≡ true → ApartIn (kindOf c))
-    → Tied (step caps rooms s c .state) (record { commands = record-call caps rooms (record { state = s; list = o .commands }) c .list; bytes = mark-call caps rooms s (o .bytes) c })
-    (cond (carried caps rooms s c) (rust-call caps s r c) r)
-one-call caps rooms s o r c T P = go (carried caps rooms s c) refl
+-- a recording whose list and bytes are these
+abbrev over : State → Lists → List ℕ → Recording
+over s o q = record { state = s; list = o .commands; bytes = o .bytes; queries = q }
+
+-- and the list and the bytes of one
+abbrev listsOf : Recording → Lists
+listsOf r = record { commands = r .list; bytes = r .bytes }
+
+one-call : (caps : PrivateCapabilities) (rooms : Rooms) (s : State) (o r : Lists) (q : List ℕ) (c : Call) → Tied s o r → (carried caps rooms s c ≡ true → ApartIn (kindOf c))
+    → Tied (step caps rooms s c .state) (listsOf (record-call caps rooms (over s o q) c)) (cond (carried caps rooms s c) (rust-call caps s r c) r)
+one-call caps rooms s o r q c T P = go (carried caps rooms s c) refl
   where
     m : Meaning
     m = meaning caps s c
@@ -163,14 +171,13 @@ one-call caps rooms s o r c T P = go (carried caps rooms s c) refl
     go false e = T
 
 -- ---- all calls
-pub all-calls : (caps : PrivateCapabilities) (rooms : Rooms) (s : State) (o r : Lists) (cs : List Call) → Tied s o r → Apartness (fed caps rooms s cs)
-    → Tied (record-calls caps rooms (record { state = s; list = o .commands }) cs .state)
-    (record { commands = record-calls caps rooms (record { state = s; list = o .commands }) cs .list; bytes = mark-calls caps rooms s (o .bytes) cs }) (rust-lists caps rooms s r cs)
-unfolding record-calls mark-calls rust-lists fed Apartness
-all-calls caps rooms s o r [] T P = T
-all-calls caps rooms s o r (c ∷ cs) T P =
-    all-calls caps rooms (step caps rooms s c .state) (record { commands = record-call caps rooms (record { state = s; list = o .commands }) c .list; bytes = mark-call caps rooms s (o .bytes) c })
-    (cond (carried caps rooms s c) (rust-call caps s r c) r) cs (one-call caps rooms s o r c T (P .0)) (P .1)
+pub all-calls : (caps : PrivateCapabilities) (rooms : Rooms) (s : State) (o r : Lists) (q : List ℕ) (cs : List Call) → Tied s o r → Apartness (fed caps rooms s cs)
+    → Tied (record-calls caps rooms (over s o q) cs .state) (listsOf (record-calls caps rooms (over s o q) cs)) (rust-lists caps rooms s r cs)
+unfolding record-calls rust-lists fed Apartness
+all-calls caps rooms s o r q [] T P = T
+all-calls caps rooms s o r q (c ∷ cs) T P =
+    let x = record-call caps rooms (over s o q) c in
+    all-calls caps rooms (x .state) (listsOf x) (cond (carried caps rooms s c) (rust-call caps s r c) r) (x .queries) cs (one-call caps rooms s o r q c T (P .0)) (P .1)
 
 pub began : (caps : PrivateCapabilities) (rooms : Rooms) (s : State) → carried caps rooms s begin-encoding ≡ true → Tied (begun caps rooms s .state) noLists noLists
 unfolding play
@@ -183,7 +190,7 @@ pub uniforms-same : (caps : PrivateCapabilities) (rooms : Rooms) (s : State) (ca
     → Apartness (fed caps rooms (begun caps rooms s .state) calls)
     → (ours caps rooms s calls .program ≡ rusts caps rooms s calls .program) × ((p l : ℕ) → ours caps rooms s calls .uniform p l ≡ rusts caps rooms s calls .uniform p l)
 uniforms-same caps rooms s calls e P =
-    let K = all-calls caps rooms (begun caps rooms s .state) noLists noLists calls (began caps rooms s e) P .kept in
+    let K = all-calls caps rooms (begun caps rooms s .state) noLists noLists [] calls (began caps rooms s e) P .kept in
     (K .program, K .same)
 
 -- once sent, each descriptor's uniform of the current program holds the present words
@@ -201,4 +208,4 @@ uniforms-hold caps rooms s calls e P p q t =
     i = record-calls caps rooms (begun caps rooms s) calls .state .immediates
 
     K : Kept i (ours caps rooms s calls) (rusts caps rooms s calls)
-    K = all-calls caps rooms (begun caps rooms s .state) noLists noLists calls (began caps rooms s e) P .kept
+    K = all-calls caps rooms (begun caps rooms s .state) noLists noLists [] calls (began caps rooms s e) P .kept

@@ -22,10 +22,10 @@ use Rattle.pipeline.specs.Fixed.{sameTargets}
 use Rattle.pass.specs.Render.{beginRenderCommands, attachColors, resolvesFrom, invalidations, clearColors}
 use Rattle.calls.specs.Call.{Call, begin-encoding, end-encoding, end-render-pass, end-compute-pass, set-compute-pipeline, set-immediates}
 use Rattle.calls.specs.Step.{outcomeOf, step}
-use Rattle.order.specs.Run.{carried, record-calls, mark-calls, fed, begun}
-use Rattle.order.specs.Samples.{emulated, rooms, lent, innerOf, barePass}
-use Rattle.order.specs.EdgeSamples.{compute, sending}
-use Rattle.order.specs.Worked.{_⨾_}
+use Rattle.book.specs.Run.{carried, record-calls, fed, begun}
+use Rattle.cases.specs.Samples.{emulated, rooms, lent, innerOf, barePass}
+use Rattle.cases.specs.EdgeSamples.{compute, sending}
+use Rattle.cases.specs.Worked.{_⨾_}
 use Rattle.uniforms.specs.Uniforms.{Value, Effect, uses, loads, neither, effect, play}
 use Rattle.uniforms.specs.Rust.{rust-lists, noLists, ours, rusts, Apart, Apartness}
 use Rattle.uniforms.specs.Since.{sentIn}
@@ -65,7 +65,7 @@ abbrev pub seen : Row → Shown
 seen r =
     record {
       sent = sents (record-calls emulated rooms (begun emulated rooms startState) (r .calls) .list);
-      bytes = mark-calls emulated rooms (begun emulated rooms startState .state) [] (r .calls);
+      bytes = record-calls emulated rooms (begun emulated rooms startState) (r .calls) .bytes;
       refused = refusals (begun emulated rooms startState .state) (r .calls);
     }
 
@@ -160,7 +160,7 @@ rows =
     ∷ []
 
 pub all-rows : map seen rows ≡ map said rows
-unfolding record-calls mark-calls refusals sents outcomeOf smallest some? badUnits among twice testBit bitAt setBit without maskOf placesFrom maskBy tabulate samplerCommands changedUnits
+unfolding record-calls refusals sents outcomeOf smallest some? badUnits among twice testBit bitAt setBit without maskOf placesFrom maskBy tabulate samplerCommands changedUnits
     sameTargets beginRenderCommands attachColors resolvesFrom invalidations clearColors bytesOf filter immediateCommands immediateBytes immediatesOver
 all-rows = refl
 
@@ -176,7 +176,7 @@ abbrev six : Option Value
 six = some (record { ty = 5126; bytes = 6 ∷ 0 ∷ 0 ∷ 0 ∷ [] })
 
 sun-here : ours emulated rooms startState sliding .uniform 1 7 ≡ six
-unfolding record-calls mark-calls play outcomeOf smallest some? badUnits among twice testBit bitAt setBit without maskOf placesFrom maskBy tabulate samplerCommands changedUnits sameTargets
+unfolding record-calls play outcomeOf smallest some? badUnits among twice testBit bitAt setBit without maskOf placesFrom maskBy tabulate samplerCommands changedUnits sameTargets
     beginRenderCommands attachColors resolvesFrom invalidations clearColors bytesOf filter immediateCommands immediateBytes immediatesOver
 sun-here = refl
 
@@ -210,7 +210,7 @@ not-apart P = P .1 .0 refl .0 .0 refl
 
 -- word 0 alone is sent, and the location holds it; the Rust sends word 1 behind it
 pub here-three : ours emulated rooms startState shared .uniform 1 0 ≡ some (record { ty = 5126; bytes = 3 ∷ 0 ∷ 0 ∷ 0 ∷ [] })
-unfolding record-calls mark-calls play outcomeOf smallest some? badUnits among twice testBit bitAt setBit without maskOf placesFrom maskBy tabulate samplerCommands changedUnits sameTargets
+unfolding record-calls play outcomeOf smallest some? badUnits among twice testBit bitAt setBit without maskOf placesFrom maskBy tabulate samplerCommands changedUnits sameTargets
     beginRenderCommands attachColors resolvesFrom invalidations clearColors bytesOf filter immediateCommands immediateBytes immediatesOver
 here-three = refl
 

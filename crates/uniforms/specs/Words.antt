@@ -11,7 +11,7 @@ use lib.Seq.{length-take-le, getD-take, getD-drop, getD-append-add, ext-getD}
 use Rattle.records.specs.declared.command.ImmediateDesc.{ImmediateDesc}
 use Rattle.bindings.specs.Immediates.{overwritten, wordsOf, sharesWord}
 use Rattle.bindings.specs.Shared.{shared-yes}
-use Rattle.order.specs.Lists.{true-false}
+use Rattle.machine.proofs.Lists.{true-false}
 
 -- a word before those written, or behind them
 old-words : (l ws : List ℕ) (at i : ℕ) → at + length ws ≤ length l → (i < at) ⊎ (at + length ws ≤ i) → getD (overwritten l at ws) i 0 ≡ getD l i 0

@@ -1,0 +1,1 @@
+// The book of document 01, lists of calls, and the premises: only definitions, in specs/.

@@ -1,0 +1,11 @@
+pub mod Worked
+pub mod Samples
+pub mod Cases
+pub mod EdgeSamples
+pub mod Edges
+pub mod Numbers
+pub mod RustWitness
+pub mod Readings
+pub mod Witness
+pub mod OnBoards
+pub mod Pair

@@ -1,0 +1,4 @@
+pub mod Each
+pub mod View
+pub mod Machine
+pub mod Found
