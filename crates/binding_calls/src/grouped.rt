@@ -104,7 +104,7 @@ pub fn group_answer(plan: GroupPlan, s: State) -> Answer
     Answer { outcome, state }
 }
 
-pub fn record_group(list: &mut [Record], offsets: &[u32], plan: GroupPlan)
+pub(crate) fn record_group(list: &mut [Record], offsets: &[u32], plan: GroupPlan)
     requires { ⌜ (plan .batch .at + plan .batch .n ≤ length (now list)) × ((i : ℕ) → i < plan .batch .n → GroupAllowed (now offsets) (plan .batch) i) ⌝ }
     ensures { λ _. ⌜ now (list .exit) ≡ filled (λ i. recordOf (groupedAt (now (offsets .entry)) (plan .batch) i)) (now (list .entry)) (plan .batch .at) (plan .batch .n) ⌝ }
 {

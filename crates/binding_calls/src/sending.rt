@@ -119,7 +119,7 @@ pub fn sent_answer(plan: ImmediatePlan, s: State) -> Answer
     Answer { outcome, state }
 }
 
-pub fn record_immediates(list: &mut [Record], plan: ImmediatePlan)
+pub(crate) fn record_immediates(list: &mut [Record], plan: ImmediatePlan)
     requires { ⌜ (plan .batch .at + plan .batch .n ≤ length (now list)) × ((i : ℕ) → i < plan .batch .n → SendAllowed (plan .batch) i) ⌝ }
     ensures { λ _. ⌜ now (list .exit) ≡ filled (λ i. recordOf (sentAt (plan .batch) i)) (now (list .entry)) (plan .batch .at) (plan .batch .n) ⌝ }
 {

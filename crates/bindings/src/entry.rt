@@ -10,7 +10,7 @@ use records::binding::BindGroupLayoutEntry;
 use records::binding::BindingType;
 use records::binding::RawBinding;
 
-pub fn dynamic(ty: BindingType) -> bool
+pub(crate) fn dynamic(ty: BindingType) -> bool
     ensures { λ r. ⌜ r ≡ dynamicOf ty ⌝ }
 {
     match ty {
@@ -39,7 +39,7 @@ fn not_buffer(ty: BindingType) -> bool
 }
 
 // Whether there is a command.
-pub fn records_one(raw: RawBinding) -> bool
+pub(crate) fn records_one(raw: RawBinding) -> bool
     ensures { λ r. ⌜ r ≡ recordsOne raw ⌝ }
 {
     match raw {
@@ -55,7 +55,7 @@ pub fn records_one(raw: RawBinding) -> bool
     }
 }
 
-pub fn takes_offset(entry: BindGroupLayoutEntry, raw: RawBinding) -> bool
+pub(crate) fn takes_offset(entry: BindGroupLayoutEntry, raw: RawBinding) -> bool
     ensures { λ r. ⌜ r ≡ takesOffset entry raw ⌝ }
 {
     let ty = entry.ty;
@@ -95,14 +95,14 @@ fn content_out_of_range(slot: u32, raw: RawBinding) -> bool
 }
 
 // Condition 3.
-pub fn out_of_range(entry: BindGroupLayoutEntry, raw: RawBinding) -> bool
+pub(crate) fn out_of_range(entry: BindGroupLayoutEntry, raw: RawBinding) -> bool
     ensures { λ r. ⌜ r ≡ entryOutOfRange (record { layout = entry; raw = raw }) ⌝ }
 {
     (1000 <= entry.binding) | ((256 <= entry.slot) | content_out_of_range(entry.slot, raw))
 }
 
 // Condition 5.
-pub fn wrong_kind(entry: BindGroupLayoutEntry, raw: RawBinding) -> bool
+pub(crate) fn wrong_kind(entry: BindGroupLayoutEntry, raw: RawBinding) -> bool
     ensures { λ r. ⌜ r ≡ contentWrongKind (entry .ty) raw ⌝ }
 {
     let ty = entry.ty;

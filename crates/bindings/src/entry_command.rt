@@ -80,7 +80,7 @@ fn low(offset: i64) -> i32
 }
 
 // Condition 6, where the next dynamic offset is `next`.
-pub fn offset_over(entry: BindGroupLayoutEntry, raw: RawBinding, next: u32) -> bool
+pub(crate) fn offset_over(entry: BindGroupLayoutEntry, raw: RawBinding, next: u32) -> bool
     ensures { λ r. ⌜ r ≡ offsetOver entry raw (next ∷ []) ⌝ }
 {
     let ty = entry.ty;
@@ -118,7 +118,7 @@ fn buffer_command(
 }
 
 // The command, where there is one and the next dynamic offset is `next`.
-pub fn entry_command(entry: BindGroupLayoutEntry, raw: RawBinding, next: u32) -> Command
+pub(crate) fn entry_command(entry: BindGroupLayoutEntry, raw: RawBinding, next: u32) -> Command
     ensures { λ r. ⌜ (offsetOver entry raw (next ∷ []) ≡ false → Stands r 0 (entryCommands entry raw (next ∷ []))) ⌝ }
 {
     match raw {

@@ -37,7 +37,7 @@ fn sampler_state(b: BindState, slot: u32, k: u32) -> BindState
     next
 }
 
-pub fn entry_state(entry: BindGroupLayoutEntry, raw: RawBinding, b: BindState) -> BindState
+pub(crate) fn entry_state(entry: BindGroupLayoutEntry, raw: RawBinding, b: BindState) -> BindState
     ensures { λ r. ⌜ r ≡ entryState entry raw b ⌝ }
 {
     match raw {
@@ -54,7 +54,7 @@ pub fn entry_state(entry: BindGroupLayoutEntry, raw: RawBinding, b: BindState) -
 }
 
 // The units whose texture is named.
-pub fn textures_after(entry: BindGroupLayoutEntry, raw: RawBinding, m: u32) -> u32
+pub(crate) fn textures_after(entry: BindGroupLayoutEntry, raw: RawBinding, m: u32) -> u32
     ensures { λ r. ⌜ r ≡ namedAfter isTexture entry raw m ⌝ }
 {
     match raw {
@@ -71,7 +71,7 @@ pub fn textures_after(entry: BindGroupLayoutEntry, raw: RawBinding, m: u32) -> u
 }
 
 // The samplers that are named.
-pub fn samplers_after(entry: BindGroupLayoutEntry, raw: RawBinding, m: u32) -> u32
+pub(crate) fn samplers_after(entry: BindGroupLayoutEntry, raw: RawBinding, m: u32) -> u32
     ensures { λ r. ⌜ r ≡ namedAfter isSampler entry raw m ⌝ }
 {
     match raw {

@@ -54,7 +54,7 @@ fn long_group(l: PipelineLayout) -> bool
 }
 
 // How many entries are gone through.
-pub fn reached(shape: GroupShape, content_count: usize) -> usize
+pub(crate) fn reached(shape: GroupShape, content_count: usize) -> usize
     ensures { λ r. ⌜ r ≡ min (cond (shape .present) (min (shape .«entry_count») 64) 0) (min «content_count» 64) ⌝ }
 {
     if shape.present {
@@ -68,7 +68,7 @@ pub fn reached(shape: GroupShape, content_count: usize) -> usize
 }
 
 // The dynamic offset number `used`, 0 past the last.
-pub fn offset_at(offsets: &[u32], count: usize, used: u32) -> u32
+pub(crate) fn offset_at(offsets: &[u32], count: usize, used: u32) -> u32
     ensures { λ r. ⌜ r ≡ headOr 0 (drop used (take count (now (offsets .entry)))) ⌝ }
 {
     let at = used as usize;

@@ -22,7 +22,7 @@ use records::command::Command;
 use records::state::BindState;
 
 // Command number k of the entries.
-pub fn group_command_at(
+pub(crate) fn group_command_at(
     offsets: &[u32],
     count: usize,
     l: PipelineLayout,

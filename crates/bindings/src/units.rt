@@ -8,7 +8,7 @@ use records::command::OptionU32;
 use records::state::BindState;
 use records::state::TextureSlotDesc;
 
-pub fn unit_at(b: BindState, u: u32) -> TextureSlotDesc
+pub(crate) fn unit_at(b: BindState, u: u32) -> TextureSlotDesc
     ensures { λ r. ⌜ r ≡ unitAt b u ⌝ }
 {
     if u < 16 {
@@ -24,7 +24,7 @@ pub fn unit_at(b: BindState, u: u32) -> TextureSlotDesc
 }
 
 // The sampler under number k.
-pub fn sampler_at(b: BindState, k: u32) -> OptionU32
+pub(crate) fn sampler_at(b: BindState, k: u32) -> OptionU32
     ensures { λ r. ⌜ r ≡ samplerAt b k ⌝ }
 {
     if mask::test(b.sampler_set, k) {

@@ -28,7 +28,7 @@ fn pick(ok: bool, new: u32, old: u32) -> u32
 
 // A draw whose slots are moved on by instance w, in a state that breaks the limits `broken`.
 // `absent` and `over` are conditions 4 and 6 of its own commands.
-pub fn plan_drawing(
+pub(crate) fn plan_drawing(
     room: usize,
     caps: PrivateCapabilities,
     broken: Broken,

@@ -79,7 +79,7 @@ fn record_offset(offset: u64, i: usize, size: u64) -> u64
     }
 }
 
-pub fn own_count(own: Own) -> u32
+pub(crate) fn own_count(own: Own) -> u32
     ensures { λ r. ⌜ r ≡ length (ownCommands own) ⌝ }
 {
     match own {
@@ -205,7 +205,7 @@ pub fn draw_answer(plan: DrawPlan, s: State) -> Answer
     Answer { outcome, state }
 }
 
-pub fn record_drawn(list: &mut [Record], plan: DrawPlan)
+pub(crate) fn record_drawn(list: &mut [Record], plan: DrawPlan)
     requires { ⌜ (plan .batch .at + plan .batch .n ≤ length (now list)) × ((i : ℕ) → i < plan .batch .n → DrawAllowed (plan .batch) i) ⌝ }
     ensures { λ _. ⌜ now (list .exit) ≡ filled (λ i. recordOf (drawnAt (plan .batch) i)) (now (list .entry)) (plan .batch .at) (plan .batch .n) ⌝ }
 {

@@ -32,7 +32,7 @@ pub struct TakenTopology {
     pub next: Cursor,
 }
 
-pub fn take_topology(line: &[u8], c: Cursor) -> TakenTopology {
+pub(crate) fn take_topology(line: &[u8], c: Cursor) -> TakenTopology {
     let t = take(line, c, 4);
     let next = t.next;
     let value = topology_at(t.value);
@@ -67,7 +67,7 @@ pub struct TakenPrimitive {
     pub next: Cursor,
 }
 
-pub fn take_primitive(line: &[u8], c: Cursor) -> TakenPrimitive {
+pub(crate) fn take_primitive(line: &[u8], c: Cursor) -> TakenPrimitive {
     let front = take_bool(line, c);
     let at_cull = front.next;
     let cull = take(line, at_cull, 2);
@@ -93,7 +93,7 @@ pub struct TakenDepthState {
     pub next: Cursor,
 }
 
-pub fn take_depth_state(line: &[u8], c: Cursor) -> TakenDepthState {
+pub(crate) fn take_depth_state(line: &[u8], c: Cursor) -> TakenDepthState {
     let some = take_bool(line, c);
     let after = some.next;
     if some.value {
@@ -122,7 +122,7 @@ pub struct TakenBias {
 }
 
 // The two floats stay bits.
-pub fn take_bias(line: &[u8], c: Cursor) -> TakenBias {
+pub(crate) fn take_bias(line: &[u8], c: Cursor) -> TakenBias {
     let constant = take_i32(line, c);
     let at_slope = constant.next;
     let slope = take_u32(line, at_slope);
@@ -189,7 +189,7 @@ pub struct TakenStencil {
     pub next: Cursor,
 }
 
-pub fn take_stencil(line: &[u8], c: Cursor) -> TakenStencil {
+pub(crate) fn take_stencil(line: &[u8], c: Cursor) -> TakenStencil {
     let some = take_bool(line, c);
     let after = some.next;
     if some.value {

@@ -128,7 +128,7 @@ pub struct TakenInner {
     pub next: Cursor,
 }
 
-pub fn take_inner(line: &[u8], c: Cursor) -> TakenInner {
+pub(crate) fn take_inner(line: &[u8], c: Cursor) -> TakenInner {
     let program = take_u32(line, c);
     let at_location = program.next;
     let location = take_option(line, at_location);

@@ -160,7 +160,7 @@ pub struct TakenLayout {
     pub next: Cursor,
 }
 
-pub fn take_layout(line: &[u8], c: Cursor) -> TakenLayout {
+pub(crate) fn take_layout(line: &[u8], c: Cursor) -> TakenLayout {
     let t = take_length(line, c);
     let reads = t.reads;
     let first = t.next;
@@ -200,7 +200,7 @@ fn past_groups(line: &[u8], c: Cursor, groups: usize) -> Cursor {
 }
 
 // The entries of the group at `index` of the layout that begins at `c`.
-pub fn entries_of(line: &[u8], c: Cursor, index: u32) -> GroupEntries {
+pub(crate) fn entries_of(line: &[u8], c: Cursor, index: u32) -> GroupEntries {
     let t = take_length(line, c);
     let first = t.next;
     let at = index as usize;

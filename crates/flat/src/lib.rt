@@ -1,16 +1,16 @@
 // The flat form of a session: lines of decimal numbers, as tools/oracle/README.md has it. What a
 // line says is read from left to right into the arguments of a call.
 pub mod cursor;
-pub mod fixed;
+mod fixed;
 pub mod group;
-pub mod inner;
-pub mod layout;
+mod inner;
+mod layout;
 pub mod lines;
 pub mod pass;
 pub mod pipeline;
-pub mod place;
+mod place;
 pub mod runs;
 pub mod small;
-pub mod targets;
-pub mod vertex;
-pub mod view;
+mod targets;
+mod vertex;
+mod view;

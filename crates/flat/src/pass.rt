@@ -20,7 +20,7 @@ pub struct TakenLabel {
 }
 
 // A label into the run; one of no bytes is present.
-pub fn take_label(line: &[u8], c: Cursor, out: &mut [u8]) -> TakenLabel
+pub(crate) fn take_label(line: &[u8], c: Cursor, out: &mut [u8]) -> TakenLabel
     ensures { λ r. do ⌜ r .count ≤ (← ⟦out.len()⟧ .entry) ⌝ }
 {
     let some = take_bool(line, c);
@@ -67,7 +67,7 @@ pub struct TakenTimestamps {
 }
 
 // The set's queries go into the run; its target is read and dropped.
-pub fn take_timestamps(line: &[u8], c: Cursor, set: &mut [u32]) -> TakenTimestamps
+pub(crate) fn take_timestamps(line: &[u8], c: Cursor, set: &mut [u32]) -> TakenTimestamps
     ensures { λ r. do ⌜ r .count ≤ (← ⟦set.len()⟧ .entry) ⌝ }
 {
     let some = take_bool(line, c);

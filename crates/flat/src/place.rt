@@ -142,7 +142,7 @@ pub struct TakenPlaces {
     pub next: Cursor,
 }
 
-pub fn take_places(line: &[u8], c: Cursor) -> TakenPlaces {
+pub(crate) fn take_places(line: &[u8], c: Cursor) -> TakenPlaces {
     let t = take_length(line, c);
     let reads = t.reads;
     let first = t.next;
@@ -199,7 +199,7 @@ pub struct TakenDepthStencil {
     pub next: Cursor,
 }
 
-pub fn take_depth_stencil(line: &[u8], c: Cursor) -> TakenDepthStencil {
+pub(crate) fn take_depth_stencil(line: &[u8], c: Cursor) -> TakenDepthStencil {
     let some = take_bool(line, c);
     let after = some.next;
     if some.value {

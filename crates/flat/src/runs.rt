@@ -31,7 +31,7 @@ pub fn take_numbers(line: &[u8], c: Cursor, out: &mut [u32]) -> TakenRun
     TakenRun { count: n, next }
 }
 
-pub fn take_bytes(line: &[u8], c: Cursor, out: &mut [u8]) -> TakenRun
+pub(crate) fn take_bytes(line: &[u8], c: Cursor, out: &mut [u8]) -> TakenRun
     ensures { λ r. do ⌜ r .count ≤ (← ⟦out.len()⟧ .entry) ⌝ }
 {
     let t = take_count(line, c, out.len());

@@ -30,11 +30,11 @@ fn take_up_to(line: &[u8], c: Cursor, most: u32) -> TakenU32 {
     }
 }
 
-pub fn take_u8(line: &[u8], c: Cursor) -> TakenU32 {
+pub(crate) fn take_u8(line: &[u8], c: Cursor) -> TakenU32 {
     take_up_to(line, c, 255)
 }
 
-pub fn take_u16(line: &[u8], c: Cursor) -> TakenU32 {
+pub(crate) fn take_u16(line: &[u8], c: Cursor) -> TakenU32 {
     take_up_to(line, c, 65535)
 }
 
@@ -50,7 +50,7 @@ pub struct TakenLength {
     pub next: Cursor,
 }
 
-pub fn take_length(line: &[u8], c: Cursor) -> TakenLength {
+pub(crate) fn take_length(line: &[u8], c: Cursor) -> TakenLength {
     let t = take_count(line, c, 4294967295);
     let next = t.next;
     TakenLength {
@@ -83,11 +83,11 @@ fn take_option_up_to(line: &[u8], c: Cursor, most: u32) -> TakenOption {
     }
 }
 
-pub fn take_option(line: &[u8], c: Cursor) -> TakenOption {
+pub(crate) fn take_option(line: &[u8], c: Cursor) -> TakenOption {
     take_option_up_to(line, c, 4294967295)
 }
 
-pub fn take_option_u8(line: &[u8], c: Cursor) -> TakenOption {
+pub(crate) fn take_option_u8(line: &[u8], c: Cursor) -> TakenOption {
     take_option_up_to(line, c, 255)
 }
 
@@ -96,7 +96,7 @@ pub struct TakenF32 {
     pub next: Cursor,
 }
 
-pub fn take_f32(line: &[u8], c: Cursor) -> TakenF32 {
+pub(crate) fn take_f32(line: &[u8], c: Cursor) -> TakenF32 {
     let t = take_u32(line, c);
     let next = t.next;
     TakenF32 {
@@ -110,7 +110,7 @@ pub struct TakenF64 {
     pub next: Cursor,
 }
 
-pub fn take_f64(line: &[u8], c: Cursor) -> TakenF64 {
+pub(crate) fn take_f64(line: &[u8], c: Cursor) -> TakenF64 {
     let t = take_u64(line, c);
     let next = t.next;
     TakenF64 {
@@ -124,7 +124,7 @@ pub struct TakenRange {
     pub next: Cursor,
 }
 
-pub fn take_range(line: &[u8], c: Cursor) -> TakenRange {
+pub(crate) fn take_range(line: &[u8], c: Cursor) -> TakenRange {
     let start = take_u32(line, c);
     let at_end = start.next;
     let end = take_u32(line, at_end);

@@ -87,7 +87,7 @@ pub struct TakenTargets {
     pub next: Cursor,
 }
 
-pub fn take_targets(line: &[u8], c: Cursor) -> TakenTargets {
+pub(crate) fn take_targets(line: &[u8], c: Cursor) -> TakenTargets {
     let t = take_length(line, c);
     let reads = t.reads;
     let first = t.next;

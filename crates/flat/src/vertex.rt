@@ -209,7 +209,7 @@ pub struct TakenVertex {
     pub next: Cursor,
 }
 
-pub fn take_vertex(line: &[u8], c: Cursor) -> TakenVertex {
+pub(crate) fn take_vertex(line: &[u8], c: Cursor) -> TakenVertex {
     let slots = take_slots(line, c);
     let at_attributes = slots.next;
     let list = take_attributes(line, at_attributes);

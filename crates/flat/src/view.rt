@@ -48,7 +48,7 @@ pub struct TakenView {
     pub next: Cursor,
 }
 
-pub fn take_view(line: &[u8], c: Cursor) -> TakenView {
+pub(crate) fn take_view(line: &[u8], c: Cursor) -> TakenView {
     let texture = take_texture(line, c);
     let at_aspects = texture.next;
     let aspects = take_u8(line, at_aspects);

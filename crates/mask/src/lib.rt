@@ -7,7 +7,7 @@ ghost use lib.Count.{ones};
 ghost use Rattle.mask.specs.Mask.{testBit, bitAt, setBit, setBitIf, clearBit, without as withoutOf, lowest as lowestOf, rest as restOf, places};
 
 // The mask whose only place is i.
-pub fn bit(i: u32) -> u32
+pub(crate) fn bit(i: u32) -> u32
     ensures { λ r. ⌜ r ≡ bitAt i ⌝ }
 {
     if i < 32 { 1 << i } else { 0 }

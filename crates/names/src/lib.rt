@@ -90,7 +90,7 @@ pub fn map_stencil_op(operation: wgt::StencilOperation) -> u32
     STENCIL_OPERATIONS[at]
 }
 
-pub fn map_stencil_ops(face: wgt::StencilFaceState) -> StencilOps
+pub(crate) fn map_stencil_ops(face: wgt::StencilFaceState) -> StencilOps
     ensures { λ r. ⌜ r ≡ stencilOps face ⌝ }
 {
     let pass = face.pass_op;
@@ -103,7 +103,11 @@ pub fn map_stencil_ops(face: wgt::StencilFaceState) -> StencilOps
     }
 }
 
-pub fn map_stencil_side(face: wgt::StencilFaceState, read_mask: u32, write_mask: u32) -> StencilSide
+pub(crate) fn map_stencil_side(
+    face: wgt::StencilFaceState,
+    read_mask: u32,
+    write_mask: u32,
+) -> StencilSide
     ensures { λ r. ⌜ r ≡ stencilSide face «read_mask» «write_mask» ⌝ }
 {
     let compare = face.compare;
@@ -166,7 +170,7 @@ pub fn map_blend_operation(operation: wgt::BlendOperation) -> u32
     BLEND_OPERATIONS[at]
 }
 
-pub fn map_blend_component(component: wgt::BlendComponent) -> BlendComponent
+pub(crate) fn map_blend_component(component: wgt::BlendComponent) -> BlendComponent
     ensures { λ r. ⌜ r ≡ blendComponent component ⌝ }
 {
     let src = component.src_factor;

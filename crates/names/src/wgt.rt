@@ -14,7 +14,7 @@ pub enum CompareFunction {
     Always,
 }
 
-pub fn compare_place(f: CompareFunction) -> usize
+pub(crate) fn compare_place(f: CompareFunction) -> usize
     ensures { λ r. ⌜ r ≡ comparePlace f ⌝ }
 {
     match f {
@@ -37,7 +37,7 @@ pub enum PrimitiveTopology {
     TriangleStrip,
 }
 
-pub fn topology_place(t: PrimitiveTopology) -> usize
+pub(crate) fn topology_place(t: PrimitiveTopology) -> usize
     ensures { λ r. ⌜ r ≡ topologyPlace t ⌝ }
 {
     match t {
@@ -54,7 +54,7 @@ pub enum FrontFace {
     Cw,
 }
 
-pub fn front_place(f: FrontFace) -> usize
+pub(crate) fn front_place(f: FrontFace) -> usize
     ensures { λ r. ⌜ r ≡ frontPlace f ⌝ }
 {
     match f {
@@ -70,7 +70,7 @@ pub enum CullMode {
     Back,
 }
 
-pub fn cull_place(m: CullMode) -> usize
+pub(crate) fn cull_place(m: CullMode) -> usize
     ensures { λ r. ⌜ r ≡ cullPlace m ⌝ }
 {
     match m {
@@ -87,7 +87,7 @@ pub enum PolygonMode {
     Point,
 }
 
-pub fn polygon_place(m: PolygonMode) -> usize
+pub(crate) fn polygon_place(m: PolygonMode) -> usize
     ensures { λ r. ⌜ r ≡ polygonPlace m ⌝ }
 {
     match m {
@@ -108,7 +108,7 @@ pub enum StencilOperation {
     DecrementWrap,
 }
 
-pub fn stencil_op_place(o: StencilOperation) -> usize
+pub(crate) fn stencil_op_place(o: StencilOperation) -> usize
     ensures { λ r. ⌜ r ≡ stencilOpPlace o ⌝ }
 {
     match o {
@@ -143,7 +143,7 @@ pub enum BlendFactor {
     OneMinusSrc1Alpha,
 }
 
-pub fn factor_place(f: BlendFactor) -> usize
+pub(crate) fn factor_place(f: BlendFactor) -> usize
     ensures { λ r. ⌜ r ≡ factorPlace f ⌝ }
 {
     match f {
@@ -175,7 +175,7 @@ pub enum BlendOperation {
     Max,
 }
 
-pub fn operation_place(o: BlendOperation) -> usize
+pub(crate) fn operation_place(o: BlendOperation) -> usize
     ensures { λ r. ⌜ r ≡ operationPlace o ⌝ }
 {
     match o {

@@ -23,7 +23,7 @@ use records::pipeline::PrivateCapabilities;
 use records::pipeline::RenderPipeline;
 use records::state::State;
 
-pub fn draw_by_value(
+pub(crate) fn draw_by_value(
     list: [Record; MAX_COMMANDS],
     room: usize,
     caps: PrivateCapabilities,
@@ -50,7 +50,7 @@ pub fn draw_by_value(
     Kept { list: next, answer }
 }
 
-pub fn begin_render_pass_by_value(
+pub(crate) fn begin_render_pass_by_value(
     list: [Record; MAX_COMMANDS],
     room: usize,
     bytes: &mut [u8],
@@ -84,7 +84,7 @@ pub fn begin_render_pass_by_value(
     Kept { list: next, answer }
 }
 
-pub fn end_render_pass_by_value(
+pub(crate) fn end_render_pass_by_value(
     list: [Record; MAX_COMMANDS],
     room: usize,
     caps: PrivateCapabilities,
@@ -99,7 +99,7 @@ pub fn end_render_pass_by_value(
     Kept { list: next, answer }
 }
 
-pub fn set_render_pipeline_by_value(
+pub(crate) fn set_render_pipeline_by_value(
     list: [Record; MAX_COMMANDS],
     room: usize,
     caps: PrivateCapabilities,

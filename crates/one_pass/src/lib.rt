@@ -2,7 +2,7 @@
 // vertex buffer and one draw, and `end_encoding`. The contract cites specs/Script.antt; what the
 // order theorem says of it stands in proofs/InOrder.antt.
 mod by_value;
-pub mod kept;
+mod kept;
 mod written;
 
 ghost use Rattle.one_pass.specs.Script.{passOf, Shoots, Records};

@@ -18,7 +18,7 @@ use pipeline_calls::piped::piped_command;
 use records::command::Record;
 use records::limits::MAX_COMMANDS;
 
-pub fn keep_drawn(list: [Record; MAX_COMMANDS], plan: DrawPlan) -> [Record; MAX_COMMANDS]
+pub(crate) fn keep_drawn(list: [Record; MAX_COMMANDS], plan: DrawPlan) -> [Record; MAX_COMMANDS]
     requires { ⌜ (plan .batch .at + plan .batch .n ≤ 4096) × ((i : ℕ) → i < plan .batch .n → DrawAllowed (plan .batch) i) ⌝ }
     ensures { λ r. ⌜ r ≡ filled (λ i. recordOf (drawnAt (plan .batch) i)) list (plan .batch .at) (plan .batch .n) ⌝ }
 {
@@ -35,7 +35,7 @@ pub fn keep_drawn(list: [Record; MAX_COMMANDS], plan: DrawPlan) -> [Record; MAX_
     next
 }
 
-pub fn keep_render(list: [Record; MAX_COMMANDS], plan: RenderPlan) -> [Record; MAX_COMMANDS]
+pub(crate) fn keep_render(list: [Record; MAX_COMMANDS], plan: RenderPlan) -> [Record; MAX_COMMANDS]
     requires { ⌜ (plan .batch .at + plan .batch .n ≤ 4096) × ((i : ℕ) → i < plan .batch .n → RenderAllowed (plan .batch) i) ⌝ }
     ensures { λ r. ⌜ r ≡ filled (λ i. recordOf (renderAt (plan .batch) i)) list (plan .batch .at) (plan .batch .n) ⌝ }
 {
@@ -52,7 +52,7 @@ pub fn keep_render(list: [Record; MAX_COMMANDS], plan: RenderPlan) -> [Record; M
     next
 }
 
-pub fn keep_ended(list: [Record; MAX_COMMANDS], plan: EndPlan) -> [Record; MAX_COMMANDS]
+pub(crate) fn keep_ended(list: [Record; MAX_COMMANDS], plan: EndPlan) -> [Record; MAX_COMMANDS]
     requires { ⌜ (plan .batch .at + plan .batch .n ≤ 4096) × ((i : ℕ) → i < plan .batch .n → EndAllowed (plan .batch) i) ⌝ }
     ensures { λ r. ⌜ r ≡ filled (λ i. recordOf (endedAt (plan .batch) i)) list (plan .batch .at) (plan .batch .n) ⌝ }
 {
@@ -69,7 +69,7 @@ pub fn keep_ended(list: [Record; MAX_COMMANDS], plan: EndPlan) -> [Record; MAX_C
     next
 }
 
-pub fn keep_piped(list: [Record; MAX_COMMANDS], plan: PipedPlan) -> [Record; MAX_COMMANDS]
+pub(crate) fn keep_piped(list: [Record; MAX_COMMANDS], plan: PipedPlan) -> [Record; MAX_COMMANDS]
     requires { ⌜ (plan .batch .at + plan .batch .n ≤ 4096) × ((i : ℕ) → i < plan .batch .n → PipedAllowed (plan .batch) i) ⌝ }
     ensures { λ r. ⌜ r ≡ filled (λ i. recordOf (commandAt (plan .batch) i)) list (plan .batch .at) (plan .batch .n) ⌝ }
 {

@@ -12,7 +12,7 @@ use records::pass::RenderPassDescriptor;
 use records::pipeline::PrivateCapabilities;
 
 // Command number k of the colours' attachments.
-pub fn attach_color_at(
+pub(crate) fn attach_color_at(
     caps: PrivateCapabilities,
     d: RenderPassDescriptor,
     filled: u32,
@@ -26,7 +26,7 @@ pub fn attach_color_at(
 }
 
 // Command number k of the attachments.
-pub fn attachment_at(
+pub(crate) fn attachment_at(
     caps: PrivateCapabilities,
     d: RenderPassDescriptor,
     filled: u32,

@@ -97,7 +97,7 @@ fn clear_color(n: u32, a: ColorAttachment) -> Command
 }
 
 // The clear of a place, to draw buffer n.
-pub fn clear_place(n: u32, p: OptionColorAttachment) -> Command
+pub(crate) fn clear_place(n: u32, p: OptionColorAttachment) -> Command
     ensures { λ r. ⌜ r ≡ clearCommand n p ⌝ }
 {
     match p {
@@ -107,7 +107,7 @@ pub fn clear_place(n: u32, p: OptionColorAttachment) -> Command
 }
 
 // Whether a place records a clear.
-pub fn is_cleared(p: OptionColorAttachment) -> bool
+pub(crate) fn is_cleared(p: OptionColorAttachment) -> bool
     ensures { λ r. ⌜ r ≡ isCleared p ⌝ }
 {
     match p {
@@ -123,7 +123,7 @@ pub fn is_cleared(p: OptionColorAttachment) -> bool
 }
 
 // Condition 5 of a place: a depth kind cleared as colour.
-pub fn clears_depth_kind(p: OptionColorAttachment) -> bool
+pub(crate) fn clears_depth_kind(p: OptionColorAttachment) -> bool
     ensures { λ r. ⌜ r ≡ clearsDepthKind p ⌝ }
 {
     match p {

@@ -11,7 +11,7 @@ use records::command::Command;
 use records::pass::RenderPassDescriptor;
 
 // Command number k of the colours' clears, to the draw buffer with the number of its place.
-pub fn clear_color_at(d: RenderPassDescriptor, cleared: u32, k: u32) -> Command
+pub(crate) fn clear_color_at(d: RenderPassDescriptor, cleared: u32, k: u32) -> Command
     ensures { λ r. ⌜ (cleared ≡ clearedMask d → Stands r k (clearColors 0 (placesOf d))) ⌝ }
 {
     let i = mask::nth(cleared, k);
@@ -20,7 +20,7 @@ pub fn clear_color_at(d: RenderPassDescriptor, cleared: u32, k: u32) -> Command
 }
 
 // Command number k of the clears.
-pub fn clear_at(d: RenderPassDescriptor, cleared: u32, k: u32) -> Command
+pub(crate) fn clear_at(d: RenderPassDescriptor, cleared: u32, k: u32) -> Command
     ensures { λ r. ⌜ (cleared ≡ clearedMask d → Stands r k (allClears d)) ⌝ }
 {
     if k < mask::count(cleared) {

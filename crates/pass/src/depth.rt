@@ -45,7 +45,7 @@ fn bind_depth(d: DepthStencilAttachment) -> Command
     }
 }
 
-pub fn has_depth(t: OptionDepthStencil) -> bool
+pub(crate) fn has_depth(t: OptionDepthStencil) -> bool
     ensures { λ r. ⌜ r ≡ hasDepth t ⌝ }
 {
     match t {
@@ -54,7 +54,7 @@ pub fn has_depth(t: OptionDepthStencil) -> bool
     }
 }
 
-pub fn attach_depth(t: OptionDepthStencil) -> Command
+pub(crate) fn attach_depth(t: OptionDepthStencil) -> Command
     ensures { λ r. ⌜ r ≡ attachDepthCommand t ⌝ }
 {
     match t {
@@ -64,7 +64,7 @@ pub fn attach_depth(t: OptionDepthStencil) -> Command
 }
 
 // Bit 8 of the invalidation set.
-pub fn invalid_depth(t: OptionDepthStencil) -> bool
+pub(crate) fn invalid_depth(t: OptionDepthStencil) -> bool
     ensures { λ r. ⌜ r ≡ invalidDepth t ⌝ }
 {
     match t {
@@ -77,7 +77,7 @@ pub fn invalid_depth(t: OptionDepthStencil) -> bool
 }
 
 // Bit 9.
-pub fn invalid_stencil(t: OptionDepthStencil) -> bool
+pub(crate) fn invalid_stencil(t: OptionDepthStencil) -> bool
     ensures { λ r. ⌜ r ≡ invalidStencil t ⌝ }
 {
     match t {
@@ -90,7 +90,7 @@ pub fn invalid_stencil(t: OptionDepthStencil) -> bool
 }
 
 // Whether depth or stencil records a clear.
-pub fn clears_depth(t: OptionDepthStencil) -> bool
+pub(crate) fn clears_depth(t: OptionDepthStencil) -> bool
     ensures { λ r. ⌜ r ≡ clearsDepth t ⌝ }
 {
     match t {
@@ -119,7 +119,7 @@ fn clear_both(depth: bool, stencil: bool, d: DepthStencilAttachment) -> Command
 }
 
 // The clear of depth and stencil.
-pub fn clear_depth(t: OptionDepthStencil) -> Command
+pub(crate) fn clear_depth(t: OptionDepthStencil) -> Command
     ensures { λ r. ⌜ r ≡ clearDepthCommand t ⌝ }
 {
     match t {

@@ -29,7 +29,7 @@ pub fn query_of(set: &[u32], count: usize, i: u32) -> u32
     0
 }
 
-pub fn query_at(set: &[u32], count: usize, index: OptionU32) -> OptionU32
+pub(crate) fn query_at(set: &[u32], count: usize, index: OptionU32) -> OptionU32
     ensures { λ r. ⌜ r ≡ queryAt (record { run = now (set .entry); count = count }) index ⌝ }
 {
     match index {
@@ -39,7 +39,7 @@ pub fn query_at(set: &[u32], count: usize, index: OptionU32) -> OptionU32
 }
 
 // Condition 3: an index past the set.
-pub fn index_out(count: usize, index: OptionU32) -> bool
+pub(crate) fn index_out(count: usize, index: OptionU32) -> bool
     ensures { λ r. ⌜ ((run : List ℕ) → r ≡ indexOut (record { run = run; count = count }) index) ⌝ }
 {
     match index {
@@ -75,7 +75,7 @@ pub fn begin_query(set: &[u32], count: usize, t: OptionTimestampWrites) -> Optio
 }
 
 // The query that the end of the pass writes.
-pub fn end_timestamp(
+pub(crate) fn end_timestamp(
     set: &[u32],
     count: usize,
     t: OptionTimestampWrites,

@@ -15,7 +15,7 @@ use records::command::Command;
 use records::command::OptionU32;
 use records::command::RangeU32;
 
-pub fn stamp_count(q: OptionU32) -> u32
+pub(crate) fn stamp_count(q: OptionU32) -> u32
     ensures { λ r. ⌜ (r ≡ length (timestamp q)) × (r ≤ 1) ⌝ }
 {
     match q {
@@ -25,7 +25,7 @@ pub fn stamp_count(q: OptionU32) -> u32
 }
 
 // The timestamp of a query, where there is one.
-pub fn stamp_command(q: OptionU32) -> Command
+pub(crate) fn stamp_command(q: OptionU32) -> Command
     ensures { λ r. ⌜ r ≡ getD (timestamp q) 0 noCommand ⌝ }
 {
     match q {

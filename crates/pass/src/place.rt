@@ -58,7 +58,7 @@ fn is_texture(t: TextureInner) -> bool
 }
 
 // Whether it has an attachment.
-pub fn is_filled(p: OptionColorAttachment) -> bool
+pub(crate) fn is_filled(p: OptionColorAttachment) -> bool
     ensures { λ r. ⌜ r ≡ isFilled p ⌝ }
 {
     match p {
@@ -67,7 +67,7 @@ pub fn is_filled(p: OptionColorAttachment) -> bool
     }
 }
 
-pub fn filled_default(p: OptionColorAttachment) -> bool
+pub(crate) fn filled_default(p: OptionColorAttachment) -> bool
     ensures { λ r. ⌜ r ≡ filledWith isDefault p ⌝ }
 {
     match p {
@@ -80,7 +80,7 @@ pub fn filled_default(p: OptionColorAttachment) -> bool
     }
 }
 
-pub fn filled_external(p: OptionColorAttachment) -> bool
+pub(crate) fn filled_external(p: OptionColorAttachment) -> bool
     ensures { λ r. ⌜ r ≡ filledWith isExternal p ⌝ }
 {
     match p {
@@ -94,7 +94,12 @@ pub fn filled_external(p: OptionColorAttachment) -> bool
 }
 
 // Whether the resolve view is attached in place of the view of place i.
-pub fn resolves_in_place(caps: PrivateCapabilities, i: u32, ops: u32, target: OptionView) -> bool
+pub(crate) fn resolves_in_place(
+    caps: PrivateCapabilities,
+    i: u32,
+    ops: u32,
+    target: OptionView,
+) -> bool
     ensures { λ r. ⌜ r ≡ resolvesInPlace caps i ops target ⌝ }
 {
     match target {
@@ -117,7 +122,7 @@ fn view_or(v: TextureView, target: OptionView) -> TextureView
 }
 
 // The attachment point of place i; 0 where it leaves its field.
-pub fn color_point(i: u32) -> u32
+pub(crate) fn color_point(i: u32) -> u32
     ensures { λ r. ⌜ r ≡ within (2 ^ 32) (COLOR-ATTACHMENT0 + i) ⌝ }
 {
     if 0xffffffff - COLOR_ATTACHMENT0 < i {
@@ -152,7 +157,7 @@ fn attach_color(caps: PrivateCapabilities, samples: u32, i: u32, a: ColorAttachm
 }
 
 // The attachment of place i.
-pub fn attach_place(
+pub(crate) fn attach_place(
     caps: PrivateCapabilities,
     samples: u32,
     i: u32,
@@ -176,7 +181,7 @@ fn has_view(target: OptionView) -> bool
 }
 
 // Whether the end of the pass resolves place i.
-pub fn is_resolved(caps: PrivateCapabilities, i: u32, p: OptionColorAttachment) -> bool
+pub(crate) fn is_resolved(caps: PrivateCapabilities, i: u32, p: OptionColorAttachment) -> bool
     ensures { λ r. ⌜ r ≡ isResolved caps i p ⌝ }
 {
     match p {
@@ -199,7 +204,7 @@ fn resolve_to(i: u32, target: OptionView) -> ResolveDesc
 }
 
 // The resolve of place i.
-pub fn resolve_desc(i: u32, p: OptionColorAttachment) -> ResolveDesc
+pub(crate) fn resolve_desc(i: u32, p: OptionColorAttachment) -> ResolveDesc
     ensures { λ r. ⌜ r ≡ resolveDesc i p ⌝ }
 {
     match p {
@@ -212,7 +217,7 @@ pub fn resolve_desc(i: u32, p: OptionColorAttachment) -> ResolveDesc
 }
 
 // Whether the end of the pass invalidates place i.
-pub fn invalid_color(caps: PrivateCapabilities, i: u32, p: OptionColorAttachment) -> bool
+pub(crate) fn invalid_color(caps: PrivateCapabilities, i: u32, p: OptionColorAttachment) -> bool
     ensures { λ r. ⌜ r ≡ invalidColor caps i p ⌝ }
 {
     match p {

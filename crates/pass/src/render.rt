@@ -16,7 +16,7 @@ use records::pipeline::PrivateCapabilities;
 use records::state::PassState;
 
 // Whether place 0 is the default renderbuffer.
-pub fn default_first(d: RenderPassDescriptor) -> bool
+pub(crate) fn default_first(d: RenderPassDescriptor) -> bool
     ensures { λ r. ⌜ r ≡ defaultFirst (placesOf d) ⌝ }
 {
     let p = place_at(d, 0);
@@ -24,7 +24,7 @@ pub fn default_first(d: RenderPassDescriptor) -> bool
 }
 
 // The invalidation set: colours, depth, stencil.
-pub fn invalidations(caps: PrivateCapabilities, d: RenderPassDescriptor) -> u32
+pub(crate) fn invalidations(caps: PrivateCapabilities, d: RenderPassDescriptor) -> u32
     ensures { λ r. ⌜ r ≡ invalidationsOf caps d ⌝ }
 {
     let masks = survey(caps, d);

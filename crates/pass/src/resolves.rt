@@ -42,7 +42,11 @@ fn append_resolve(
 }
 
 // The resolves of the places, over those that the state has.
-pub fn lay_resolves(caps: PrivateCapabilities, d: RenderPassDescriptor, s: PassState) -> Resolves
+pub(crate) fn lay_resolves(
+    caps: PrivateCapabilities,
+    d: RenderPassDescriptor,
+    s: PassState,
+) -> Resolves
     ensures { λ r. ⌜ r ≡ laidOver (resolvesFrom caps 0 (placesOf d)) (s .resolves) ⌝ }
 {
     let old = s.resolves;

@@ -24,7 +24,7 @@ pub struct PlaceMasks {
 }
 
 // Place i; past the count it is empty.
-pub fn place_at(d: RenderPassDescriptor, i: u32) -> OptionColorAttachment
+pub(crate) fn place_at(d: RenderPassDescriptor, i: u32) -> OptionColorAttachment
     ensures { λ r. ⌜ r ≡ placeAt d i ⌝ }
 {
     let at = i as usize;
@@ -61,7 +61,7 @@ fn survey_place(
     }
 }
 
-pub fn survey(caps: PrivateCapabilities, d: RenderPassDescriptor) -> PlaceMasks
+pub(crate) fn survey(caps: PrivateCapabilities, d: RenderPassDescriptor) -> PlaceMasks
     ensures { λ r. ⌜ r ≡ surveyOf caps d 8 ⌝ }
 {
     let mut s = PlaceMasks {

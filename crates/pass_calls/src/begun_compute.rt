@@ -103,7 +103,7 @@ pub fn compute_answer(plan: ComputePlan, s: State) -> Answer
     Answer { outcome, state }
 }
 
-pub fn record_compute(list: &mut [Record], plan: ComputePlan)
+pub(crate) fn record_compute(list: &mut [Record], plan: ComputePlan)
     requires { ⌜ (plan .batch .at + plan .batch .n ≤ length (now list)) × ((i : ℕ) → i < plan .batch .n → ComputeAllowed (plan .batch) i) ⌝ }
     ensures { λ _. ⌜ now (list .exit) ≡ filled (λ i. recordOf (computeAt (plan .batch) i)) (now (list .entry)) (plan .batch .at) (plan .batch .n) ⌝ }
 {

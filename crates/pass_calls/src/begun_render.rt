@@ -106,7 +106,7 @@ pub fn render_answer(plan: RenderPlan, s: State) -> Answer
     Answer { outcome, state }
 }
 
-pub fn record_render(list: &mut [Record], plan: RenderPlan)
+pub(crate) fn record_render(list: &mut [Record], plan: RenderPlan)
     requires { ⌜ (plan .batch .at + plan .batch .n ≤ length (now list)) × ((i : ℕ) → i < plan .batch .n → RenderAllowed (plan .batch) i) ⌝ }
     ensures { λ _. ⌜ now (list .exit) ≡ filled (λ i. recordOf (renderAt (plan .batch) i)) (now (list .entry)) (plan .batch .at) (plan .batch .n) ⌝ }
 {

@@ -135,7 +135,7 @@ pub fn end_answer(plan: EndPlan, s: State) -> Answer
     Answer { outcome, state }
 }
 
-pub fn record_ended(list: &mut [Record], plan: EndPlan)
+pub(crate) fn record_ended(list: &mut [Record], plan: EndPlan)
     requires { ⌜ (plan .batch .at + plan .batch .n ≤ length (now list)) × ((i : ℕ) → i < plan .batch .n → EndAllowed (plan .batch) i) ⌝ }
     ensures { λ _. ⌜ now (list .exit) ≡ filled (λ i. recordOf (endedAt (plan .batch) i)) (now (list .entry)) (plan .batch .at) (plan .batch .n) ⌝ }
 {
@@ -146,7 +146,7 @@ pub fn record_ended(list: &mut [Record], plan: EndPlan)
 }
 
 // The end of a pass of this kind, which leaves these three parts.
-pub fn plan_end(
+pub(crate) fn plan_end(
     room: usize,
     s: State,
     render: bool,

@@ -34,14 +34,14 @@ pub struct Marked {
 }
 
 // How many bytes a label has: no more than it is lent, none where there is no label.
-pub fn label_size(has_label: bool, count: usize, len: usize) -> usize
+pub(crate) fn label_size(has_label: bool, count: usize, len: usize) -> usize
     ensures { λ r. ⌜ r ≡ cond «has_label» (min count len) 0 ⌝ }
 {
     if has_label { within(count, len) } else { 0 }
 }
 
 // A count above the label's run, whether there is a label or not.
-pub fn label_short(count: usize, len: usize) -> bool
+pub(crate) fn label_short(count: usize, len: usize) -> bool
     ensures { λ r. ⌜ r ≡ ltb len count ⌝ }
 {
     len < count
@@ -49,7 +49,7 @@ pub fn label_short(count: usize, len: usize) -> bool
 
 // The phase, too many places, an index past the set, a wrong kind, a label that ends past 32 bits,
 // and a count above its run.
-pub fn begin_asks(
+pub(crate) fn begin_asks(
     allowed: bool,
     many: bool,
     range: bool,
@@ -71,7 +71,7 @@ pub fn begin_asks(
 }
 
 // A call that ends in `phase`, appends `n` commands and `size` bytes, and leaves this pass record.
-pub fn plan_mark(
+pub(crate) fn plan_mark(
     room: usize,
     bytes_room: usize,
     s: State,
@@ -110,7 +110,7 @@ pub fn plan_mark(
 }
 
 // The label's first bytes, from the place `at` on.
-pub fn copy_label(bytes: &mut [u8], label: &[u8], at: usize, n: usize)
+pub(crate) fn copy_label(bytes: &mut [u8], label: &[u8], at: usize, n: usize)
     requires { ⌜ LabelFits (now label) at n (length (now bytes)) ⌝ }
     ensures { λ _. ⌜ now (bytes .exit) ≡ filled (λ i. getD (now (label .entry)) i 0) (now (bytes .entry)) at n ⌝ }
 {

@@ -5,19 +5,19 @@ use records::state::FixedState;
 use records::state::PassState;
 use records::state::VertexState;
 
-pub fn taken_vertex(ok: bool, new: VertexState, old: VertexState) -> VertexState
+pub(crate) fn taken_vertex(ok: bool, new: VertexState, old: VertexState) -> VertexState
     ensures { λ r. ⌜ r ≡ cond ok new old ⌝ }
 {
     if ok { new } else { old }
 }
 
-pub fn taken_fixed(ok: bool, new: FixedState, old: FixedState) -> FixedState
+pub(crate) fn taken_fixed(ok: bool, new: FixedState, old: FixedState) -> FixedState
     ensures { λ r. ⌜ r ≡ cond ok new old ⌝ }
 {
     if ok { new } else { old }
 }
 
-pub fn taken_pass(ok: bool, new: PassState, old: PassState) -> PassState
+pub(crate) fn taken_pass(ok: bool, new: PassState, old: PassState) -> PassState
     ensures { λ r. ⌜ r ≡ cond ok new old ⌝ }
 {
     if ok { new } else { old }

@@ -57,13 +57,13 @@ fn set_attribute(d: OptionVertexBufferDesc, a: AttributeDesc) -> Command
 }
 
 // How many attributes the state holds: one is unset a command.
-pub fn unset_count(v: VertexState) -> u32
+pub(crate) fn unset_count(v: VertexState) -> u32
     ensures { λ r. ⌜ (r ≡ length (map unsetAttribute (attributesOf v))) × (r ≤ 16) ⌝ }
 {
     within(v.attribute_count, MAX_VERTEX_ATTRIBUTES) as u32
 }
 
-pub fn unset_command_at(v: VertexState, k: u32) -> Command
+pub(crate) fn unset_command_at(v: VertexState, k: u32) -> Command
     ensures { λ r. ⌜ Stands r k (map unsetAttribute (attributesOf v)) ⌝ }
 {
     let attributes = v.attributes;
@@ -71,7 +71,7 @@ pub fn unset_command_at(v: VertexState, k: u32) -> Command
     Command::UnsetVertexAttribute(a.location)
 }
 
-pub fn vertex_count(caps: PrivateCapabilities, p: RenderPipeline, v: VertexState) -> u32
+pub(crate) fn vertex_count(caps: PrivateCapabilities, p: RenderPipeline, v: VertexState) -> u32
     ensures { λ r. ⌜ (r ≡ length (vertexCommands caps p v)) × (r ≤ 16) ⌝ }
 {
     if caps.vertex_buffer_layout {
@@ -82,7 +82,7 @@ pub fn vertex_count(caps: PrivateCapabilities, p: RenderPipeline, v: VertexState
 }
 
 // Command number k of the vertex part.
-pub fn vertex_command_at(
+pub(crate) fn vertex_command_at(
     caps: PrivateCapabilities,
     p: RenderPipeline,
     v: VertexState,

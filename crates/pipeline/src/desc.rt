@@ -28,7 +28,11 @@ fn layout_at(layouts: [VertexBufferLayout; MAX_VERTEX_BUFFERS], i: u32) -> Verte
 }
 
 // The description of slot i in an element, where that many slots are counted.
-pub fn counted_desc(layout: VertexBufferLayout, i: u32, count: usize) -> OptionVertexBufferDesc
+pub(crate) fn counted_desc(
+    layout: VertexBufferLayout,
+    i: u32,
+    count: usize,
+) -> OptionVertexBufferDesc
     ensures { λ r. ⌜ described r ≡ countedDesc layout i count ⌝ }
 {
     let at = i as usize;
@@ -40,7 +44,7 @@ pub fn counted_desc(layout: VertexBufferLayout, i: u32, count: usize) -> OptionV
 }
 
 // The description of slot i among the counted ones.
-pub fn desc_in(
+pub(crate) fn desc_in(
     layouts: [VertexBufferLayout; MAX_VERTEX_BUFFERS],
     count: usize,
     i: u32,
@@ -60,7 +64,7 @@ pub fn pipe_desc(p: RenderPipeline, i: u32) -> OptionVertexBufferDesc
 }
 
 // The description of a slot of the state, which has one where `there` says so.
-pub fn slot_desc(slot: VertexSlot, there: bool, by_instance: bool) -> OptionVertexBufferDesc
+pub(crate) fn slot_desc(slot: VertexSlot, there: bool, by_instance: bool) -> OptionVertexBufferDesc
     ensures { λ r. ⌜ described r ≡ slotDesc slot there «by_instance» ⌝ }
 {
     let step = step_of(by_instance);
@@ -74,7 +78,7 @@ pub fn slot_desc(slot: VertexSlot, there: bool, by_instance: bool) -> OptionVert
     }
 }
 
-pub fn has_desc(d: OptionVertexBufferDesc) -> bool
+pub(crate) fn has_desc(d: OptionVertexBufferDesc) -> bool
     ensures { λ r. ⌜ r ≡ has (described d) ⌝ }
 {
     match d {
@@ -99,7 +103,7 @@ fn by_instance(d: VertexBufferDesc) -> bool
     is_instance(step)
 }
 
-pub fn steps_by_instance(d: OptionVertexBufferDesc) -> bool
+pub(crate) fn steps_by_instance(d: OptionVertexBufferDesc) -> bool
     ensures { λ r. ⌜ r ≡ stepsByInstance (described d) ⌝ }
 {
     match d {
@@ -109,7 +113,7 @@ pub fn steps_by_instance(d: OptionVertexBufferDesc) -> bool
 }
 
 // The description's step, or what the state had.
-pub fn step_or(old: bool, d: OptionVertexBufferDesc) -> bool
+pub(crate) fn step_or(old: bool, d: OptionVertexBufferDesc) -> bool
     ensures { λ r. ⌜ r ≡ stepOr old (described d) ⌝ }
 {
     match d {
@@ -119,7 +123,7 @@ pub fn step_or(old: bool, d: OptionVertexBufferDesc) -> bool
 }
 
 // The slot with the description's stride.
-pub fn described_slot(d: OptionVertexBufferDesc, s: VertexSlot) -> VertexSlot
+pub(crate) fn described_slot(d: OptionVertexBufferDesc, s: VertexSlot) -> VertexSlot
     ensures { λ r. ⌜ r ≡ describedSlot (described d) s ⌝ }
 {
     match d {
@@ -132,7 +136,7 @@ pub fn described_slot(d: OptionVertexBufferDesc, s: VertexSlot) -> VertexSlot
     }
 }
 
-pub fn desc_or(d: OptionVertexBufferDesc) -> VertexBufferDesc
+pub(crate) fn desc_or(d: OptionVertexBufferDesc) -> VertexBufferDesc
     ensures { λ r. ⌜ r ≡ descOr (described d) ⌝ }
 {
     match d {
@@ -168,7 +172,7 @@ fn same_desc(a: VertexBufferDesc, b: VertexBufferDesc) -> bool
 }
 
 // Whether a pipeline's description is another than the state's.
-pub fn desc_changes(new: OptionVertexBufferDesc, old: OptionVertexBufferDesc) -> bool
+pub(crate) fn desc_changes(new: OptionVertexBufferDesc, old: OptionVertexBufferDesc) -> bool
     ensures { λ r. ⌜ r ≡ changes (described new) (described old) ⌝ }
 {
     match new {

@@ -54,7 +54,7 @@ pub fn fixed_count(p: RenderPipeline, f: FixedState) -> u32
 }
 
 // Command number k of the fixed part, by the plan that `fixed_plan` gives.
-pub fn fixed_command_at(p: RenderPipeline, f: FixedState, plan: FixedPlan, k: u32) -> Command
+pub(crate) fn fixed_command_at(p: RenderPipeline, f: FixedState, plan: FixedPlan, k: u32) -> Command
     ensures { λ r. ⌜ (plan ≡ fixedPlan p f → Stands r k (fixedCommands p f)) ⌝ }
 {
     if k < plan.primitive {

@@ -1,11 +1,11 @@
 // Render and compute pipelines: `set_pipeline_inner`, `set_render_pipeline` and
 // `set_compute_pipeline` of gles/command.rs. The commands are worked out by count and place.
 pub mod attributes;
-pub mod desc;
+mod desc;
 pub mod fixed;
 pub mod inner;
-pub mod plan;
+mod plan;
 pub mod render;
 pub mod stencil;
-pub mod targets;
+mod targets;
 pub mod vertex;

@@ -89,7 +89,7 @@ fn changed_target_count(p: RenderPipeline, f: FixedState, alike: bool) -> u32
     }
 }
 
-pub fn fixed_plan(p: RenderPipeline, f: FixedState) -> FixedPlan
+pub(crate) fn fixed_plan(p: RenderPipeline, f: FixedState) -> FixedPlan
     ensures { λ r. ⌜ (r ≡ fixedPlan p f) × (r .count ≤ 18) ⌝ }
 {
     let new_primitive = p.primitive;

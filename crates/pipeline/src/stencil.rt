@@ -77,7 +77,7 @@ fn same_op(front: StencilSide, back: StencilSide) -> bool
     same_stencil_ops(x, y) & (front.mask_write == back.mask_write)
 }
 
-pub fn stencil_op_count(s: StencilState) -> u32
+pub(crate) fn stencil_op_count(s: StencilState) -> u32
     ensures { λ r. ⌜ (r ≡ length (stencilOps s)) × (r ≤ 2) ⌝ }
 {
     let front = s.front;
@@ -86,7 +86,7 @@ pub fn stencil_op_count(s: StencilState) -> u32
 }
 
 // Command number k of the stencil operations.
-pub fn stencil_op_at(s: StencilState, k: u32) -> Command
+pub(crate) fn stencil_op_at(s: StencilState, k: u32) -> Command
     ensures { λ r. ⌜ Stands r k (stencilOps s) ⌝ }
 {
     let front = s.front;
@@ -119,7 +119,7 @@ fn both_at(s: StencilState, k: u32) -> Command
     }
 }
 
-pub fn stencil_count(stencil: OptionStencilState) -> u32
+pub(crate) fn stencil_count(stencil: OptionStencilState) -> u32
     ensures { λ r. ⌜ (r ≡ length (stencilCommands stencil)) × (r ≤ 4) ⌝ }
 {
     match stencil {
@@ -128,7 +128,7 @@ pub fn stencil_count(stencil: OptionStencilState) -> u32
     }
 }
 
-pub fn stencil_command_at(stencil: OptionStencilState, k: u32) -> Command
+pub(crate) fn stencil_command_at(stencil: OptionStencilState, k: u32) -> Command
     ensures { λ r. ⌜ Stands r k (stencilCommands stencil) ⌝ }
 {
     match stencil {
@@ -137,7 +137,7 @@ pub fn stencil_command_at(stencil: OptionStencilState, k: u32) -> Command
     }
 }
 
-pub fn stencil_aspect(stencil: OptionStencilState) -> u32
+pub(crate) fn stencil_aspect(stencil: OptionStencilState) -> u32
     ensures { λ r. ⌜ (r ≡ stencilAspect stencil) × (r ≤ 4) ⌝ }
 {
     match stencil {
@@ -147,7 +147,7 @@ pub fn stencil_aspect(stencil: OptionStencilState) -> u32
 }
 
 // The pipeline's stencil, or the state's where it has none.
-pub fn stencil_or(old: StencilState, stencil: OptionStencilState) -> StencilState
+pub(crate) fn stencil_or(old: StencilState, stencil: OptionStencilState) -> StencilState
     ensures { λ r. ⌜ r ≡ stencilOr old stencil ⌝ }
 {
     match stencil {

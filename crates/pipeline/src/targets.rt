@@ -42,7 +42,7 @@ fn same_counted(
 }
 
 // Whether the pipeline's targets are those of the state.
-pub fn same_targets(f: FixedState, p: RenderPipeline) -> bool
+pub(crate) fn same_targets(f: FixedState, p: RenderPipeline) -> bool
     ensures { λ r. ⌜ r ≡ sameTargets (targetsOf f) (targetsIn p) ⌝ }
 {
     let old = f.color_targets;
@@ -85,7 +85,7 @@ fn all_counted(
 }
 
 // Whether all targets are the same as the first.
-pub fn all_alike(p: RenderPipeline) -> bool
+pub(crate) fn all_alike(p: RenderPipeline) -> bool
     ensures { λ r. ⌜ r ≡ allAlike p ⌝ }
 {
     let targets = p.color_targets;
@@ -93,7 +93,7 @@ pub fn all_alike(p: RenderPipeline) -> bool
     all_counted(targets, p.color_target_count, first)
 }
 
-pub fn target_count(p: RenderPipeline, alike: bool) -> u32
+pub(crate) fn target_count(p: RenderPipeline, alike: bool) -> u32
     ensures { λ r. ⌜ (alike ≡ allAlike p → r ≡ length (targetCommands (targetsIn p))) × (r ≤ 8) ⌝ }
 {
     let n = within(p.color_target_count, MAX_COLOR_ATTACHMENTS);
@@ -104,7 +104,7 @@ pub fn target_count(p: RenderPipeline, alike: bool) -> u32
 }
 
 // Command number k of the targets.
-pub fn target_command_at(p: RenderPipeline, alike: bool, k: u32) -> Command
+pub(crate) fn target_command_at(p: RenderPipeline, alike: bool, k: u32) -> Command
     ensures { λ r. ⌜ (alike ≡ allAlike p → Stands r k (targetCommands (targetsIn p))) ⌝ }
 {
     if p.color_target_count == 0 {

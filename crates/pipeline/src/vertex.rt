@@ -27,7 +27,10 @@ use records::state::VertexSlot;
 use records::state::VertexState;
 
 // The slots that the pipeline describes.
-pub fn described_slots(layouts: [VertexBufferLayout; MAX_VERTEX_BUFFERS], count: usize) -> u32
+pub(crate) fn described_slots(
+    layouts: [VertexBufferLayout; MAX_VERTEX_BUFFERS],
+    count: usize,
+) -> u32
     ensures { λ r. ⌜ r ≡ maskBy 16 (λ i. has (descIn layouts count i)) ⌝ }
 {
     let mut slots: u32 = 0;

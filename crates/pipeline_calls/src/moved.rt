@@ -33,7 +33,7 @@ fn taken_draw(ok: bool, new: DrawState, old: DrawState) -> DrawState
     if ok { new } else { old }
 }
 
-pub fn taken_fixed(ok: bool, new: FixedState, old: FixedState) -> FixedState
+pub(crate) fn taken_fixed(ok: bool, new: FixedState, old: FixedState) -> FixedState
     ensures { λ r. ⌜ r ≡ cond ok new old ⌝ }
 {
     if ok { new } else { old }
@@ -51,7 +51,7 @@ fn taken_immediates(ok: bool, new: ImmediateState, old: ImmediateState) -> Immed
     if ok { new } else { old }
 }
 
-pub fn with_location(d: DrawState, location: OptionU32) -> DrawState
+pub(crate) fn with_location(d: DrawState, location: OptionU32) -> DrawState
     ensures { λ r. ⌜ r ≡ withLocation location d ⌝ }
 {
     let format = d.index_format;
@@ -63,7 +63,7 @@ pub fn with_location(d: DrawState, location: OptionU32) -> DrawState
     }
 }
 
-pub fn with_topology(d: DrawState, topology: PrimitiveTopology) -> DrawState
+pub(crate) fn with_topology(d: DrawState, topology: PrimitiveTopology) -> DrawState
     ensures { λ r. ⌜ r ≡ withTopology (primitiveTopology topology) d ⌝ }
 {
     let format = d.index_format;
@@ -77,7 +77,7 @@ pub fn with_topology(d: DrawState, topology: PrimitiveTopology) -> DrawState
 }
 
 // The parts that every pipeline changes.
-pub fn shared_moved(
+pub(crate) fn shared_moved(
     ok: bool,
     s: State,
     progress: Progress,
@@ -100,7 +100,7 @@ pub fn shared_moved(
 }
 
 // A state whose other parts have moved, with the parts that only a render pipeline changes.
-pub fn render_moved(
+pub(crate) fn render_moved(
     ok: bool,
     s: State,
     shared: State,

@@ -117,7 +117,7 @@ pub fn piped_answer(plan: PipedPlan, s: State) -> Answer
     Answer { outcome, state }
 }
 
-pub fn record_piped(list: &mut [Record], plan: PipedPlan)
+pub(crate) fn record_piped(list: &mut [Record], plan: PipedPlan)
     requires { ⌜ (plan .batch .at + plan .batch .n ≤ length (now list)) × ((i : ℕ) → i < plan .batch .n → PipedAllowed (plan .batch) i) ⌝ }
     ensures { λ _. ⌜ now (list .exit) ≡ filled (λ i. recordOf (commandAt (plan .batch) i)) (now (list .entry)) (plan .batch .at) (plan .batch .n) ⌝ }
 {

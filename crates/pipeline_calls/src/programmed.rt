@@ -89,7 +89,7 @@ pub fn programmed_answer(plan: ProgrammedPlan, s: State) -> Answer
     Answer { outcome, state }
 }
 
-pub fn record_programmed(list: &mut [Record], plan: ProgrammedPlan)
+pub(crate) fn record_programmed(list: &mut [Record], plan: ProgrammedPlan)
     requires { ⌜ (plan .batch .at + plan .batch .n ≤ length (now list)) × ((i : ℕ) → i < plan .batch .n → ProgrammedAllowed (plan .batch) i) ⌝ }
     ensures { λ _. ⌜ now (list .exit) ≡ filled (λ i. recordOf (commandAt (plan .batch) i)) (now (list .entry)) (plan .batch .at) (plan .batch .n) ⌝ }
 {

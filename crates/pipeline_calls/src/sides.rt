@@ -79,7 +79,7 @@ pub fn sides_answer(plan: SidesPlan, s: State) -> Answer
     Answer { outcome, state }
 }
 
-pub fn record_sides(list: &mut [Record], plan: SidesPlan)
+pub(crate) fn record_sides(list: &mut [Record], plan: SidesPlan)
     requires { ⌜ (plan .batch .at + plan .batch .n ≤ length (now list)) × ((i : ℕ) → i < plan .batch .n → SidesAllowed (plan .batch) i) ⌝ }
     ensures { λ _. ⌜ now (list .exit) ≡ filled (λ i. recordOf (commandAt (plan .batch) i)) (now (list .entry)) (plan .batch .at) (plan .batch .n) ⌝ }
 {

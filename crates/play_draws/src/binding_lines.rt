@@ -17,7 +17,7 @@ use played::print::Output;
 use records::pipeline::PrivateCapabilities;
 use records::state::State;
 
-pub fn play_set_bind_group(
+pub(crate) fn play_set_bind_group(
     out: &mut [u8],
     output: Output,
     room: usize,

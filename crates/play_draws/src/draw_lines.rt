@@ -32,7 +32,7 @@ fn played_drawn(out: &mut [u8], output: Output, plan: DrawPlan, s: State, next: 
     }
 }
 
-pub fn play_draw(
+pub(crate) fn play_draw(
     out: &mut [u8],
     output: Output,
     room: usize,
@@ -55,7 +55,7 @@ pub fn play_draw(
     played_drawn(out, output, plan, s, next)
 }
 
-pub fn play_draw_indexed(
+pub(crate) fn play_draw_indexed(
     out: &mut [u8],
     output: Output,
     room: usize,
@@ -79,7 +79,7 @@ pub fn play_draw_indexed(
     played_drawn(out, output, plan, s, next)
 }
 
-pub fn play_draw_indirect(
+pub(crate) fn play_draw_indirect(
     out: &mut [u8],
     output: Output,
     room: usize,
@@ -95,7 +95,7 @@ pub fn play_draw_indirect(
     played_drawn(out, output, plan, s, next)
 }
 
-pub fn play_draw_indexed_indirect(
+pub(crate) fn play_draw_indexed_indirect(
     out: &mut [u8],
     output: Output,
     room: usize,

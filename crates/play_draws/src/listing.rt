@@ -23,7 +23,7 @@ use played::places::shown;
 use played::print::Output;
 use played::print::put_command;
 
-pub fn put_drawn(out: &mut [u8], output: Output, batch: Drawn, right: bool) -> Output
+pub(crate) fn put_drawn(out: &mut [u8], output: Output, batch: Drawn, right: bool) -> Output
     requires { ⌜ ((i : ℕ) → i < batch .n → DrawAllowed batch i) ⌝ }
 {
     let first = batch.at;
@@ -38,7 +38,7 @@ pub fn put_drawn(out: &mut [u8], output: Output, batch: Drawn, right: bool) -> O
     at
 }
 
-pub fn put_piped(out: &mut [u8], output: Output, batch: Piped, right: bool) -> Output
+pub(crate) fn put_piped(out: &mut [u8], output: Output, batch: Piped, right: bool) -> Output
     requires { ⌜ ((i : ℕ) → i < batch .n → PipedAllowed batch i) ⌝ }
 {
     let first = batch.at;
@@ -53,7 +53,12 @@ pub fn put_piped(out: &mut [u8], output: Output, batch: Piped, right: bool) -> O
     at
 }
 
-pub fn put_programmed(out: &mut [u8], output: Output, batch: Programmed, right: bool) -> Output
+pub(crate) fn put_programmed(
+    out: &mut [u8],
+    output: Output,
+    batch: Programmed,
+    right: bool,
+) -> Output
     requires { ⌜ ((i : ℕ) → i < batch .n → ProgrammedAllowed batch i) ⌝ }
 {
     let first = batch.at;
@@ -68,7 +73,7 @@ pub fn put_programmed(out: &mut [u8], output: Output, batch: Programmed, right: 
     at
 }
 
-pub fn put_sides(out: &mut [u8], output: Output, batch: Sides, right: bool) -> Output
+pub(crate) fn put_sides(out: &mut [u8], output: Output, batch: Sides, right: bool) -> Output
     requires { ⌜ ((i : ℕ) → i < batch .n → SidesAllowed batch i) ⌝ }
 {
     let first = batch.at;
@@ -83,7 +88,7 @@ pub fn put_sides(out: &mut [u8], output: Output, batch: Sides, right: bool) -> O
     at
 }
 
-pub fn put_group(
+pub(crate) fn put_group(
     out: &mut [u8],
     output: Output,
     offsets: &[u32],
@@ -104,7 +109,7 @@ pub fn put_group(
     at
 }
 
-pub fn put_sent(out: &mut [u8], output: Output, batch: Sending, right: bool) -> Output
+pub(crate) fn put_sent(out: &mut [u8], output: Output, batch: Sending, right: bool) -> Output
     requires { ⌜ ((i : ℕ) → i < batch .n → SendAllowed batch i) ⌝ }
 {
     let first = batch.at;

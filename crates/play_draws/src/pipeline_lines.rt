@@ -19,7 +19,7 @@ use played::print::Output;
 use records::pipeline::PrivateCapabilities;
 use records::state::State;
 
-pub fn play_set_render_pipeline(
+pub(crate) fn play_set_render_pipeline(
     out: &mut [u8],
     output: Output,
     room: usize,
@@ -43,7 +43,7 @@ pub fn play_set_render_pipeline(
     }
 }
 
-pub fn play_set_compute_pipeline(
+pub(crate) fn play_set_compute_pipeline(
     out: &mut [u8],
     output: Output,
     room: usize,
@@ -67,7 +67,7 @@ pub fn play_set_compute_pipeline(
     }
 }
 
-pub fn play_set_stencil_reference(
+pub(crate) fn play_set_stencil_reference(
     out: &mut [u8],
     output: Output,
     room: usize,

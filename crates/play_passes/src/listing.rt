@@ -22,7 +22,7 @@ use transfer_calls::regions::copy_command;
 use transfer_calls::resolved::Resolved;
 use transfer_calls::resolved::resolved_command;
 
-pub fn put_render(out: &mut [u8], output: Output, batch: RenderBegun, right: bool) -> Output
+pub(crate) fn put_render(out: &mut [u8], output: Output, batch: RenderBegun, right: bool) -> Output
     requires { ⌜ ((i : ℕ) → i < batch .n → RenderAllowed batch i) ⌝ }
 {
     let first = batch.at;
@@ -37,7 +37,12 @@ pub fn put_render(out: &mut [u8], output: Output, batch: RenderBegun, right: boo
     at
 }
 
-pub fn put_compute(out: &mut [u8], output: Output, batch: ComputeBegun, right: bool) -> Output
+pub(crate) fn put_compute(
+    out: &mut [u8],
+    output: Output,
+    batch: ComputeBegun,
+    right: bool,
+) -> Output
     requires { ⌜ ((i : ℕ) → i < batch .n → ComputeAllowed batch i) ⌝ }
 {
     let first = batch.at;
@@ -52,7 +57,7 @@ pub fn put_compute(out: &mut [u8], output: Output, batch: ComputeBegun, right: b
     at
 }
 
-pub fn put_ended(out: &mut [u8], output: Output, batch: Ended, right: bool) -> Output
+pub(crate) fn put_ended(out: &mut [u8], output: Output, batch: Ended, right: bool) -> Output
     requires { ⌜ ((i : ℕ) → i < batch .n → EndAllowed batch i) ⌝ }
 {
     let first = batch.at;
@@ -67,7 +72,7 @@ pub fn put_ended(out: &mut [u8], output: Output, batch: Ended, right: bool) -> O
     at
 }
 
-pub fn put_barriers(
+pub(crate) fn put_barriers(
     out: &mut [u8],
     output: Output,
     run: &[u32],
@@ -88,7 +93,13 @@ pub fn put_barriers(
     at
 }
 
-pub fn put_copies(out: &mut [u8], output: Output, run: &[u64], batch: Copies, right: bool) -> Output
+pub(crate) fn put_copies(
+    out: &mut [u8],
+    output: Output,
+    run: &[u64],
+    batch: Copies,
+    right: bool,
+) -> Output
     requires { ⌜ ((i : ℕ) → i < batch .n → CopyAllowed (now run) batch i) ⌝ }
 {
     let first = batch.at;
@@ -103,7 +114,7 @@ pub fn put_copies(out: &mut [u8], output: Output, run: &[u64], batch: Copies, ri
     at
 }
 
-pub fn put_resolved(out: &mut [u8], output: Output, batch: Resolved, right: bool) -> Output {
+pub(crate) fn put_resolved(out: &mut [u8], output: Output, batch: Resolved, right: bool) -> Output {
     if right & (0 < batch.n) {
         let c = resolved_command(batch, 0);
         return put_command(out, output, batch.at as u64, c);

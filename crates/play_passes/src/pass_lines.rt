@@ -79,7 +79,7 @@ fn begin_render(
     }
 }
 
-pub fn play_begin_render_pass(
+pub(crate) fn play_begin_render_pass(
     out: &mut [u8],
     output: Output,
     room: usize,
@@ -134,7 +134,7 @@ fn begin_compute(
     }
 }
 
-pub fn play_begin_compute_pass(
+pub(crate) fn play_begin_compute_pass(
     out: &mut [u8],
     output: Output,
     room: usize,
@@ -152,7 +152,7 @@ pub fn play_begin_compute_pass(
     begin_compute(out, output, room, bytes, &label, &numbers, a, next, caps, s)
 }
 
-pub fn play_end_render_pass(
+pub(crate) fn play_end_render_pass(
     out: &mut [u8],
     output: Output,
     room: usize,
@@ -166,7 +166,7 @@ pub fn play_end_render_pass(
     played_ended(out, output, plan, s, next)
 }
 
-pub fn play_end_compute_pass(
+pub(crate) fn play_end_compute_pass(
     out: &mut [u8],
     output: Output,
     room: usize,

@@ -60,7 +60,7 @@ pub fn play_copy_query_results(
     }
 }
 
-pub fn play_transition_buffers(
+pub(crate) fn play_transition_buffers(
     out: &mut [u8],
     output: Output,
     room: usize,
@@ -84,7 +84,7 @@ pub fn play_transition_buffers(
     }
 }
 
-pub fn play_copy_buffer_to_buffer(
+pub(crate) fn play_copy_buffer_to_buffer(
     out: &mut [u8],
     output: Output,
     room: usize,

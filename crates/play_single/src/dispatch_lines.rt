@@ -16,7 +16,7 @@ use single_calls::dispatches::plan_clear_buffer;
 use single_calls::dispatches::plan_dispatch_workgroups;
 use single_calls::dispatches::plan_dispatch_workgroups_indirect;
 
-pub fn play_dispatch_workgroups(
+pub(crate) fn play_dispatch_workgroups(
     out: &mut [u8],
     output: Output,
     room: usize,
@@ -31,7 +31,7 @@ pub fn play_dispatch_workgroups(
     played_one(out, output, plan, s, next)
 }
 
-pub fn play_dispatch_workgroups_indirect(
+pub(crate) fn play_dispatch_workgroups_indirect(
     out: &mut [u8],
     output: Output,
     room: usize,
@@ -47,7 +47,7 @@ pub fn play_dispatch_workgroups_indirect(
     played_one(out, output, plan, s, next)
 }
 
-pub fn play_clear_buffer(
+pub(crate) fn play_clear_buffer(
     out: &mut [u8],
     output: Output,
     room: usize,
@@ -64,7 +64,7 @@ pub fn play_clear_buffer(
     played_one(out, output, plan, s, next)
 }
 
-pub fn play_transition_textures(
+pub(crate) fn play_transition_textures(
     out: &mut [u8],
     output: Output,
     room: usize,

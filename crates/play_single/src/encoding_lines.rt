@@ -10,7 +10,7 @@ use played::print::Output;
 use records::pipeline::PrivateCapabilities;
 use records::state::State;
 
-pub fn play_begin_encoding(
+pub(crate) fn play_begin_encoding(
     output: Output,
     line: &[u8],
     c: Cursor,
@@ -26,7 +26,7 @@ pub fn play_begin_encoding(
     }
 }
 
-pub fn play_end_encoding(
+pub(crate) fn play_end_encoding(
     output: Output,
     line: &[u8],
     c: Cursor,
@@ -42,7 +42,7 @@ pub fn play_end_encoding(
     }
 }
 
-pub fn play_set_vertex_buffer(
+pub(crate) fn play_set_vertex_buffer(
     output: Output,
     line: &[u8],
     c: Cursor,

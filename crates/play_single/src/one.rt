@@ -19,7 +19,13 @@ fn put_one(out: &mut [u8], output: Output, batch: One, right: bool) -> Output {
     output
 }
 
-pub fn played_one(out: &mut [u8], output: Output, plan: OnePlan, s: State, next: Cursor) -> Played {
+pub(crate) fn played_one(
+    out: &mut [u8],
+    output: Output,
+    plan: OnePlan,
+    s: State,
+    next: Cursor,
+) -> Played {
     let batch = plan.batch;
     let printed = put_one(out, output, batch, is_right(next));
     let answer = one_answer(plan, s);

@@ -13,7 +13,7 @@ use single_calls::queries::plan_end_query;
 use single_calls::queries::plan_write_timestamp;
 use single_calls::queries::reset_queries;
 
-pub fn play_begin_query(
+pub(crate) fn play_begin_query(
     out: &mut [u8],
     output: Output,
     room: usize,
@@ -29,7 +29,7 @@ pub fn play_begin_query(
     played_one(out, output, plan, s, next)
 }
 
-pub fn play_end_query(
+pub(crate) fn play_end_query(
     out: &mut [u8],
     output: Output,
     room: usize,
@@ -45,7 +45,7 @@ pub fn play_end_query(
     played_one(out, output, plan, s, next)
 }
 
-pub fn play_write_timestamp(
+pub(crate) fn play_write_timestamp(
     out: &mut [u8],
     output: Output,
     room: usize,
@@ -61,7 +61,7 @@ pub fn play_write_timestamp(
     played_one(out, output, plan, s, next)
 }
 
-pub fn play_reset_queries(
+pub(crate) fn play_reset_queries(
     output: Output,
     line: &[u8],
     c: Cursor,

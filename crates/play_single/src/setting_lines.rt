@@ -15,7 +15,7 @@ use single_calls::settings::plan_set_index_buffer;
 use single_calls::settings::plan_set_scissor_rect;
 use single_calls::settings::plan_set_viewport;
 
-pub fn play_set_index_buffer(
+pub(crate) fn play_set_index_buffer(
     out: &mut [u8],
     output: Output,
     room: usize,
@@ -32,7 +32,7 @@ pub fn play_set_index_buffer(
     played_one(out, output, plan, s, next)
 }
 
-pub fn play_set_viewport(
+pub(crate) fn play_set_viewport(
     out: &mut [u8],
     output: Output,
     room: usize,
@@ -49,7 +49,7 @@ pub fn play_set_viewport(
     played_one(out, output, plan, s, next)
 }
 
-pub fn play_set_scissor_rect(
+pub(crate) fn play_set_scissor_rect(
     out: &mut [u8],
     output: Output,
     room: usize,
@@ -66,7 +66,7 @@ pub fn play_set_scissor_rect(
     played_one(out, output, plan, s, next)
 }
 
-pub fn play_set_blend_constants(
+pub(crate) fn play_set_blend_constants(
     out: &mut [u8],
     output: Output,
     room: usize,

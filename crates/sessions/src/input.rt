@@ -79,7 +79,7 @@ fn pull(buffer: &[u8], line: &mut [u8], input: Input) -> Input {
 }
 
 // The line after `number`.
-pub fn counted(number: u64) -> u64
+pub(crate) fn counted(number: u64) -> u64
     ensures { λ r. ⌜ r ≡ nextNumber number ⌝ }
 {
     if number < 18446744073709551615 {

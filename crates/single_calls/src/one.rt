@@ -86,7 +86,7 @@ pub fn one_answer(plan: OnePlan, s: State) -> Answer
     Answer { outcome, state }
 }
 
-pub fn record_one(list: &mut [Record], plan: OnePlan)
+pub(crate) fn record_one(list: &mut [Record], plan: OnePlan)
     requires { ⌜ (plan .batch .at + plan .batch .n ≤ length (now list)) × ((i : ℕ) → i < plan .batch .n → i < 1) ⌝ }
     ensures { λ _. ⌜ now (list .exit) ≡ filled (λ i. recordOf (plan .batch .command)) (now (list .entry)) (plan .batch .at) (plan .batch .n) ⌝ }
 {
@@ -105,7 +105,7 @@ fn count_of(some: bool) -> usize
 
 // The plan of a call that stays in its phase, leaves the state as it is, and records the command
 // where `some` says so. `broken` has the limits that the state breaks.
-pub fn plan_one(
+pub(crate) fn plan_one(
     room: usize,
     broken: Broken,
     s: State,

@@ -47,7 +47,7 @@ fn moved(v: VertexState, w: u32) -> u32
 }
 
 // The dirty mask at a draw.
-pub fn woken(v: VertexState, w: u32) -> u32
+pub(crate) fn woken(v: VertexState, w: u32) -> u32
     ensures { λ r. ⌜ r ≡ wokenOf v w ⌝ }
 {
     v.dirty_vbuf_mask | moved(v, w)
@@ -83,14 +83,14 @@ fn step_digit(by_instance: bool) -> u64
 }
 
 // How far a description moves its slot on. There is no branch on the step mode.
-pub fn instance_offset(by_instance: bool, w: u32, stride: u32) -> u64
+pub(crate) fn instance_offset(by_instance: bool, w: u32, stride: u32) -> u64
     ensures { λ r. ⌜ r ≡ instanceOffset (stepOf «by_instance») w stride ⌝ }
 {
     step_digit(by_instance) * (w as u64) * (stride as u64)
 }
 
 // How far slot i is moved on.
-pub fn slot_offset(v: VertexState, w: u32, i: u32) -> u64
+pub(crate) fn slot_offset(v: VertexState, w: u32, i: u32) -> u64
     ensures { λ r. ⌜ r ≡ slotOffset v w i ⌝ }
 {
     let slot = slot_at(v, i);
@@ -98,7 +98,7 @@ pub fn slot_offset(v: VertexState, w: u32, i: u32) -> u64
 }
 
 // Condition 6 of slot i, with layouts.
-pub fn slot_over(v: VertexState, w: u32, i: u32) -> bool
+pub(crate) fn slot_over(v: VertexState, w: u32, i: u32) -> bool
     ensures { λ r. ⌜ r ≡ slotOver v w i ⌝ }
 {
     let slot = slot_at(v, i);
@@ -107,7 +107,7 @@ pub fn slot_over(v: VertexState, w: u32, i: u32) -> bool
 }
 
 // Condition 6 of an attribute, without layouts.
-pub fn attribute_over(v: VertexState, w: u32, a: AttributeDesc) -> bool
+pub(crate) fn attribute_over(v: VertexState, w: u32, a: AttributeDesc) -> bool
     ensures { λ r. ⌜ r ≡ attributeOver v w a ⌝ }
 {
     let slot = slot_at(v, a.buffer_index);

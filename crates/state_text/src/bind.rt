@@ -24,7 +24,7 @@ fn sampler_at(b: BindState, i: u32) -> u32
     }
 }
 
-pub fn sampler(b: BindState, i: u32) -> Told
+pub(crate) fn sampler(b: BindState, i: u32) -> Told
     ensures { λ r. ⌜ r ≡ toldOf (testBit (b .«sampler_set») i) 59 (samplerFields b i) ⌝ }
 {
     let sampler = sampler_at(b, i);
@@ -47,7 +47,7 @@ fn unit_at(b: BindState, i: u32) -> TextureSlotDesc
     }
 }
 
-pub fn unit(b: BindState, i: u32) -> Told
+pub(crate) fn unit(b: BindState, i: u32) -> Told
     ensures { λ r. ⌜ r ≡ toldOf (unitThere b i) 60 (unitFields b i) ⌝ }
 {
     let unit = unit_at(b, i);

@@ -19,7 +19,7 @@ use text::field::four;
 use text::field::nine;
 use text::field::two;
 
-pub fn primitive(p: PrimitiveState) -> Told
+pub(crate) fn primitive(p: PrimitiveState) -> Told
     ensures { λ r. ⌜ r ≡ toldOf true 50 (primitiveFields p) ⌝ }
 {
     let shown = four(
@@ -67,7 +67,7 @@ fn target_shown(t: ColorTargetDesc) -> Shown
     }
 }
 
-pub fn color_target(f: FixedState, i: u32) -> Told
+pub(crate) fn color_target(f: FixedState, i: u32) -> Told
     ensures { λ r. ⌜ r ≡ toldOf (ltb i (f .«color_target_count»)) 54 (targetFields (getD (f .«color_targets») i startTarget)) ⌝ }
 {
     let t = target_at(f, i);
@@ -78,7 +78,7 @@ pub fn color_target(f: FixedState, i: u32) -> Told
     }
 }
 
-pub fn stencil(name: usize, s: StencilSide) -> Told
+pub(crate) fn stencil(name: usize, s: StencilSide) -> Told
     ensures { λ r. ⌜ r ≡ toldOf true name (stencilFields s) ⌝ }
 {
     let shown = nine(
@@ -97,7 +97,7 @@ pub fn stencil(name: usize, s: StencilSide) -> Told
     Told { there: true, shown }
 }
 
-pub fn bias(b: DepthBiasState) -> Told
+pub(crate) fn bias(b: DepthBiasState) -> Told
     ensures { λ r. ⌜ r ≡ toldOf true 57 (biasFields b) ⌝ }
 {
     let shown = four(

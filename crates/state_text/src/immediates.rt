@@ -28,7 +28,7 @@ fn descriptor_at(m: ImmediateState, i: u32) -> ImmediateDesc
     }
 }
 
-pub fn descriptor(m: ImmediateState, i: u32) -> Told
+pub(crate) fn descriptor(m: ImmediateState, i: u32) -> Told
     ensures { λ r. ⌜ r ≡ toldOf (ltb i (m .count)) 68 (descriptorFields (getD (m .descs) i startImmediate)) ⌝ }
 {
     let d = descriptor_at(m, i);
@@ -57,7 +57,7 @@ fn word_at(m: ImmediateState, i: u32) -> u32
     }
 }
 
-pub fn word(m: ImmediateState, i: u32) -> Told
+pub(crate) fn word(m: ImmediateState, i: u32) -> Told
     ensures { λ r. ⌜ r ≡ toldOf (wordThere m i) 69 (wordFields m i) ⌝ }
 {
     let word = word_at(m, i);

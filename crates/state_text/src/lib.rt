@@ -24,7 +24,7 @@ use text::paste;
 pub const STATE_PLACES: u32 = 375;
 
 // Writes the state's line k, where it is there, into `out` from `at` on, whole or not at all.
-pub fn write_state_line(out: &mut [u8], at: usize, s: State, k: u32) -> Wrote
+pub(crate) fn write_state_line(out: &mut [u8], at: usize, s: State, k: u32) -> Wrote
     ensures { λ r. ⌜ (now (out .exit) ≡ pasted (now (out .entry)) at (stateLine s k)) × (r ≡ wroteOf (now (out .entry)) at (stateLine s k)) ⌝ }
 {
     let mut line = [0u8; 384];

@@ -16,7 +16,7 @@ use text::field::Field;
 use text::field::four;
 use text::field::one;
 
-pub fn render_size(e: Extent3d) -> Told
+pub(crate) fn render_size(e: Extent3d) -> Told
     ensures { λ r. ⌜ r ≡ toldOf true 61 (sizeFields e) ⌝ }
 {
     let shown = four(
@@ -42,7 +42,7 @@ fn resolve_at(p: PassState, i: u32) -> u32
     }
 }
 
-pub fn resolve(p: PassState, i: u32) -> Told
+pub(crate) fn resolve(p: PassState, i: u32) -> Told
     ensures { λ r. ⌜ r ≡ toldOf (ltb i (p .«resolve_count»)) 62 (resolveFields (getD (p .resolves) i startResolve)) ⌝ }
 {
     let place = resolve_at(p, i);
@@ -62,7 +62,7 @@ fn attachment_of(i: u32) -> u32
     if i == 8 { 36096 } else { 36128 }
 }
 
-pub fn invalidate(set: u32, i: u32) -> Told
+pub(crate) fn invalidate(set: u32, i: u32) -> Told
     ensures { λ r. ⌜ r ≡ toldOf (testBit set i) 63 (Number (attachmentOf i) ∷ []) ⌝ }
 {
     let there = mask::test(set, i);

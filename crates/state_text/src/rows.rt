@@ -21,7 +21,7 @@ pub struct Told {
     pub shown: Shown,
 }
 
-pub fn or_dash(there: bool, field: Field) -> Field
+pub(crate) fn or_dash(there: bool, field: Field) -> Field
     ensures { λ r. ⌜ r ≡ orDash there field ⌝ }
 {
     if there { field } else { Field::Absent }
@@ -36,7 +36,7 @@ fn is_uint32(format: IndexFormat) -> bool
     }
 }
 
-pub fn nothing() -> Told
+pub(crate) fn nothing() -> Told
     ensures { λ r. ⌜ r ≡ toldOf false 49 [] ⌝ }
 {
     let shown = one(49, 0, Field::Absent);
@@ -47,28 +47,28 @@ pub fn nothing() -> Told
 }
 
 // A row of one number, of one flag, and of one number that may be missing.
-pub fn number(name: usize, n: u32) -> Told
+pub(crate) fn number(name: usize, n: u32) -> Told
     ensures { λ r. ⌜ r ≡ toldOf true name (Number n ∷ []) ⌝ }
 {
     let shown = one(name, 1, Field::Number(n));
     Told { there: true, shown }
 }
 
-pub fn flag(name: usize, b: bool) -> Told
+pub(crate) fn flag(name: usize, b: bool) -> Told
     ensures { λ r. ⌜ r ≡ toldOf true name (Flag b ∷ []) ⌝ }
 {
     let shown = one(name, 1, Field::Flag(b));
     Told { there: true, shown }
 }
 
-pub fn optional(name: usize, o: OptionU32) -> Told
+pub(crate) fn optional(name: usize, o: OptionU32) -> Told
     ensures { λ r. ⌜ r ≡ toldOf true name (Optional o ∷ []) ⌝ }
 {
     let shown = one(name, 1, Field::Optional(o));
     Told { there: true, shown }
 }
 
-pub fn index(d: DrawState) -> Told
+pub(crate) fn index(d: DrawState) -> Told
     ensures { λ r. ⌜ r ≡ toldOf true 51 (indexFields d) ⌝ }
 {
     let format = d.index_format;

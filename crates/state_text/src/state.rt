@@ -72,7 +72,7 @@ fn row_places(row: usize) -> u32
 }
 
 // The row of place k of the table, 23 past its end.
-pub fn place_of(k: u32) -> Place
+pub(crate) fn place_of(k: u32) -> Place
     ensures { λ r. ⌜ (r ≡ placeIn rowPlaces 0 k) × (r .row ≤ 23) ⌝ }
 {
     let mut row = 0;
@@ -89,7 +89,7 @@ pub fn place_of(k: u32) -> Place
 }
 
 // What is shown of place i of a row.
-pub fn told(s: State, row: usize, i: u32) -> Told
+pub(crate) fn told(s: State, row: usize, i: u32) -> Told
     requires { ⌜ row ≤ 23 ⌝ }
     ensures { λ r. ⌜ TellsRow (rowAt s row) i r ⌝ }
 {
@@ -139,7 +139,7 @@ fn put_told(line: &mut [u8], told: Told) -> usize
 }
 
 // The state's line k, where it is there, at the end of `line`.
-pub fn put_state_line(line: &mut [u8], s: State, k: u32) -> usize
+pub(crate) fn put_state_line(line: &mut [u8], s: State, k: u32) -> usize
     requires { ⌜ length (now line) ≡ 384 ⌝ }
     ensures { λ r. ⌜ Put (stateLine s k) (now (line .entry)) 384 (now (line .exit)) r ⌝ }
 {
@@ -157,7 +157,7 @@ fn line_length(s: State, k: u32) -> usize
 }
 
 // How many bytes the state's lines have together.
-pub fn state_length(s: State) -> usize
+pub(crate) fn state_length(s: State) -> usize
     ensures { λ r. ⌜ r ≡ length (stateText s) ⌝ }
 {
     let mut total = 0;

@@ -29,7 +29,7 @@ fn slot_at(v: VertexState, i: u32) -> VertexSlot
     }
 }
 
-pub fn slot(v: VertexState, i: u32) -> Told
+pub(crate) fn slot(v: VertexState, i: u32) -> Told
     ensures { λ r. ⌜ r ≡ toldOf (slotThere v i) 52 (slotFields v i) ⌝ }
 {
     let slot = slot_at(v, i);
@@ -66,7 +66,7 @@ fn attribute_at(v: VertexState, i: u32) -> AttributeDesc
     }
 }
 
-pub fn attribute(v: VertexState, i: u32) -> Told
+pub(crate) fn attribute(v: VertexState, i: u32) -> Told
     ensures { λ r. ⌜ r ≡ toldOf (ltb i (v .«attribute_count»)) 53 (attributeFields (getD (v .attributes) i startAttribute)) ⌝ }
 {
     let a = attribute_at(v, i);
@@ -88,7 +88,7 @@ pub fn attribute(v: VertexState, i: u32) -> Told
     }
 }
 
-pub fn masks(v: VertexState) -> Told
+pub(crate) fn masks(v: VertexState) -> Told
     ensures { λ r. ⌜ r ≡ toldOf true 65 (maskFields v) ⌝ }
 {
     let shown = four(
@@ -113,7 +113,7 @@ fn instance_at(v: VertexState, i: u32) -> u32
     }
 }
 
-pub fn instance(v: VertexState, i: u32) -> Told
+pub(crate) fn instance(v: VertexState, i: u32) -> Told
     ensures { λ r. ⌜ r ≡ toldOf (instanceThere v i) 66 (instanceFields v i) ⌝ }
 {
     let number = instance_at(v, i);

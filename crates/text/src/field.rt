@@ -46,7 +46,16 @@ pub struct Shown {
 }
 
 // The first `count` of these numbers.
-pub fn numbers(name: usize, count: usize, a: u32, b: u32, c: u32, d: u32, e: u32, f: u32) -> Shown
+pub(crate) fn numbers(
+    name: usize,
+    count: usize,
+    a: u32,
+    b: u32,
+    c: u32,
+    d: u32,
+    e: u32,
+    f: u32,
+) -> Shown
     ensures { λ r. ⌜ r ≡ built name count (Number a ∷ Number b ∷ Number c ∷ Number d ∷ Number e ∷ Number f ∷ []) ⌝ }
 {
     let none = Item { is: Field::Absent };
@@ -218,7 +227,7 @@ pub fn nine(
     Shown { name, count, items }
 }
 
-pub fn fourteen(
+pub(crate) fn fourteen(
     name: usize,
     count: usize,
     a: Field,

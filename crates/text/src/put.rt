@@ -300,7 +300,7 @@ pub fn put_shown(line: &mut [u8], shown: Shown) -> usize
 }
 
 // A command's line, at the end of `line`.
-pub fn put_line(line: &mut [u8], number: u64, shown: Shown) -> usize
+pub(crate) fn put_line(line: &mut [u8], number: u64, shown: Shown) -> usize
     requires { ⌜ (length (now line) ≡ 384) × (shown .name < 74) × (shown .count ≤ 14) ⌝ }
     ensures { λ r. ⌜ Put (lineFrom number shown) (now (line .entry)) 384 (now (line .exit)) r ⌝ }
 {

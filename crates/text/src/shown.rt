@@ -30,7 +30,7 @@ use records::command::VertexBufferDesc;
 use records::command::VertexStepMode;
 
 // Draws, dispatches, copies and queries; the others after them.
-pub fn shown(command: Command) -> Shown
+pub(crate) fn shown(command: Command) -> Shown
     ensures { λ r. ⌜ Tells command r ⌝ }
 {
     match command {

@@ -54,7 +54,7 @@ fn absent(run: &[u32], i: usize) -> bool
 }
 
 // How many barriers are recorded.
-pub fn barrier_count(run: &[u32], count: usize) -> usize
+pub(crate) fn barrier_count(run: &[u32], count: usize) -> usize
     ensures { λ r. ⌜ r ≡ length (bufferBarrierCommands (bufferBarriers (record { run = now (run .entry); count = count }))) ⌝ }
 {
     let mut left = elements(run.len(), count);
@@ -68,7 +68,7 @@ pub fn barrier_count(run: &[u32], count: usize) -> usize
 }
 
 // Condition 4.
-pub fn barrier_absent(run: &[u32], count: usize) -> bool
+pub(crate) fn barrier_absent(run: &[u32], count: usize) -> bool
     ensures { λ r. ⌜ r ≡ some? barrierAbsent (bufferBarriers (record { run = now (run .entry); count = count })) ⌝ }
 {
     let mut left = elements(run.len(), count);
@@ -158,7 +158,7 @@ pub fn barriers_answer(plan: BarrierPlan, s: State) -> Answer
     Answer { outcome, state }
 }
 
-pub fn record_barriers(list: &mut [Record], run: &[u32], plan: BarrierPlan)
+pub(crate) fn record_barriers(list: &mut [Record], run: &[u32], plan: BarrierPlan)
     requires { ⌜ (plan .batch .at + plan .batch .n ≤ length (now list)) × ((i : ℕ) → i < plan .batch .n → BarrierAllowed (now run) (plan .batch) i) ⌝ }
     ensures { λ _. ⌜ now (list .exit) ≡ filled (λ i. recordOf (barrierCommandAt (now (run .entry)) (plan .batch) i)) (now (list .entry)) (plan .batch .at) (plan .batch .n) ⌝ }
 {

@@ -51,14 +51,14 @@ fn region_at(run: &[u64], i: usize) -> BufferCopy
 }
 
 // How many copies there are.
-pub fn region_count(run: &[u64], count: usize) -> usize
+pub(crate) fn region_count(run: &[u64], count: usize) -> usize
     ensures { λ r. ⌜ r ≡ length (regionsOf (record { run = now (run .entry); count = count })) ⌝ }
 {
     elements(run.len(), count)
 }
 
 // Condition 3.
-pub fn empty_region(run: &[u64], count: usize) -> bool
+pub(crate) fn empty_region(run: &[u64], count: usize) -> bool
     ensures { λ r. ⌜ r ≡ some? emptyCopy (regionsOf (record { run = now (run .entry); count = count })) ⌝ }
 {
     let mut left = elements(run.len(), count);
@@ -141,7 +141,7 @@ pub fn copies_answer(plan: CopyPlan, s: State) -> Answer
     Answer { outcome, state }
 }
 
-pub fn record_copies(list: &mut [Record], run: &[u64], plan: CopyPlan)
+pub(crate) fn record_copies(list: &mut [Record], run: &[u64], plan: CopyPlan)
     requires { ⌜ (plan .batch .at + plan .batch .n ≤ length (now list)) × ((i : ℕ) → i < plan .batch .n → CopyAllowed (now run) (plan .batch) i) ⌝ }
     ensures { λ _. ⌜ now (list .exit) ≡ filled (λ i. recordOf (copyAt (now (run .entry)) (plan .batch) i)) (now (list .entry)) (plan .batch .at) (plan .batch .n) ⌝ }
 {

@@ -39,7 +39,7 @@ pub struct ResolvedPlan {
 }
 
 // How many queries of the range the set has.
-pub fn query_count(set: &[u32], count: usize, start: u32, end: u32) -> usize
+pub(crate) fn query_count(set: &[u32], count: usize, start: u32, end: u32) -> usize
     ensures { λ r. ⌜ r ≡ length (queriesIn (record { run = now (set .entry); count = count }) start end) ⌝ }
 {
     let last = within(within(count, set.len()), end as usize);
@@ -48,7 +48,7 @@ pub fn query_count(set: &[u32], count: usize, start: u32, end: u32) -> usize
 }
 
 // The range of n queries from `at` on, within the limit of the query list.
-pub fn range_of(at: usize, n: usize) -> RangeU32
+pub(crate) fn range_of(at: usize, n: usize) -> RangeU32
     ensures { λ r. ⌜ (at + n ≤ 1024 → r ≡ record { start = at; end = at + n }) ⌝ }
 {
     let first = within(at, 1024);
@@ -124,7 +124,7 @@ pub fn resolved_answer(plan: ResolvedPlan, s: State) -> Answer
     Answer { outcome, state }
 }
 
-pub fn record_resolved(list: &mut [Record], plan: ResolvedPlan)
+pub(crate) fn record_resolved(list: &mut [Record], plan: ResolvedPlan)
     requires { ⌜ (plan .batch .at + plan .batch .n ≤ length (now list)) × ((i : ℕ) → i < plan .batch .n → i < 1) ⌝ }
     ensures { λ _. ⌜ now (list .exit) ≡ filled (λ i. recordOf (resolvedAt (plan .batch) i)) (now (list .entry)) (plan .batch .at) (plan .batch .n) ⌝ }
 {
