@@ -1,6 +1,6 @@
--- From the contracts of the calls, one after the other, to what `draw_and_end` and `record_pass` say. Assumes nothing.
+-- From the contracts of the seven public calls, one after the other, to that of `record_pass`. Assumes nothing.
 use Prim.Native.Nat.{ℕ}
-use mathlib.Core.Path.{_∙_, subst}
+use mathlib.Core.Path.{_≡_, refl, subst}
 use mathlib.Core.List.{List}
 use Rattle.records.specs.declared.command.Record.{Record}
 use Rattle.records.specs.declared.pass.RenderPassDescriptor.{RenderPassDescriptor}
@@ -9,30 +9,36 @@ use Rattle.records.specs.declared.pipeline.RenderPipeline.{RenderPipeline}
 use Rattle.records.specs.declared.state.Answer.{Answer}
 use Rattle.records.specs.declared.state.State.{State}
 use Rattle.pass.specs.Marks.{Lent, Label}
-use Rattle.calls.specs.Call.{begin-encoding, begin-render-pass, set-render-pipeline, set-vertex-buffer, draw, end-render-pass, end-encoding}
-use Rattle.calls.specs.Did.{Keeps}
-use Rattle.one_pass.specs.Kept.{KeptLists, KeptMarks}
-use Rattle.one_pass.specs.declared.kept.Kept.{Kept}
+use Rattle.calls.specs.Call.{Call, begin-encoding, begin-render-pass, set-render-pipeline, set-vertex-buffer, draw, end-render-pass, end-encoding}
+use Rattle.calls.specs.Did.{Runs, Did, Keeps, Lists, Marks}
 use Rattle.book.specs.Ran.{Ran, done, then}
-use Rattle.one_pass.specs.Script.{passOf, runsOf, Shoots, Records}
-use Rattle.one_pass.specs.declared.Shot.{Shot}
+use Rattle.one_pass.specs.Script.{passOf, runsOf, lastOutcome, Records}
 
-module _ (room : ℕ) (caps : PrivateCapabilities) (s : State) (shot : Shot) (l : List Record) where
-  pub shoots : (bound : Answer) (drawn ended : Kept) (end : Answer) → Keeps caps s (set-vertex-buffer (shot .slot) (shot .buffer) (shot .offset)) bound
-      → KeptLists room caps (bound .state) (draw (shot .«first_vertex») (shot .«vertex_count») (shot .«first_instance») (shot .«instance_count»)) l drawn
-      → KeptLists room caps (drawn .answer .state) end-render-pass (drawn .list) ended → Keeps caps (ended .answer .state) end-encoding end
-      → Shoots room caps s shot l (record { list = ended .list; answer = end })
-  shoots bound drawn ended end b d e f = (
-    λ bytes queries. then bound (b (runsOf room l bytes queries)) (then (drawn .answer) (d .0 bytes queries) (then (ended .answer) (e .0 bytes queries) (then end (f (runsOf room (ended .list) bytes queries)) done))),
-    e .1 ∙ d .1,
-  )
+-- a call from the state that the one before handed back
+from : (caps : PrivateCapabilities) (s : State) (a : Answer) (r r′ : Runs) (c : Call) (b : Answer) → s ≡ a .state → Did caps s r c b r′ → Did caps (a .state) r c b r′
+from caps s a r r′ c b e h = subst (λ (x : State). Did caps x r c b r′) e h
 
-  -- the state that `begin_encoding` left is the one that the order theorem begins with
-  pub records : (d : RenderPassDescriptor) (label : Label) (set : Lent) (p : RenderPipeline) (bytes bytes′ : List ℕ) (begun : Answer) (pass piped k : Kept) → Keeps caps s begin-encoding begun
-      → KeptMarks room caps (begun .state) (begin-render-pass d label set) l bytes pass bytes′ → KeptLists room caps (pass .answer .state) (set-render-pipeline p) (pass .list) piped
-      → Shoots room caps (piped .answer .state) shot (piped .list) k → Records room caps s (passOf d label set p shot) l bytes k bytes′
-  records d label set p bytes bytes′ begun pass piped k b m q r = (
-    λ queries. subst (λ (x : State). Ran caps x (runsOf room l bytes queries) (passOf d label set p shot) (k .answer .state) (runsOf room (k .list) bytes′ queries)) (b (runsOf room l bytes queries) .state)
-        (then (pass .answer) (m .0 queries) (then (piped .answer) (q .0 bytes′ queries) (r .0 bytes′ queries))),
-    r .1 ∙ q .1 ∙ m .1,
-  )
+pub chained : (caps : PrivateCapabilities) (s : State) (d : RenderPassDescriptor) (label : Label) (set : Lent) (p : RenderPipeline) (slot buffer offset fv vc fi ic : ℕ) (l : List Record) (bytes : List ℕ)
+    (begun : Answer) → Keeps caps s begin-encoding begun → (opened : State) → opened ≡ begun .state
+    → (entered : Answer) (l₁ : List Record) (bytes′ : List ℕ) → Marks caps opened (begin-render-pass d label set) l bytes entered l₁ bytes′ → (inside : State) → inside ≡ entered .state
+    → (piped : Answer) (l₂ : List Record) → Lists caps inside (set-render-pipeline p) l₁ piped l₂ → (ready : State) → ready ≡ piped .state
+    → (bound : Answer) → Keeps caps ready (set-vertex-buffer slot buffer offset) bound → (set-up : State) → set-up ≡ bound .state
+    → (drawn : Answer) (l₃ : List Record) → Lists caps set-up (draw fv vc fi ic) l₂ drawn l₃ → (shown : State) → shown ≡ drawn .state
+    → (ended : Answer) (l₄ : List Record) → Lists caps shown end-render-pass l₃ ended l₄ → (outside : State) → outside ≡ ended .state
+    → (closed : Answer) → Keeps caps outside end-encoding closed → Records caps s (passOf d label set p slot buffer offset fv vc fi ic) l bytes closed l₄ bytes′
+unfolding lastOutcome
+chained caps s d label set p slot buffer offset fv vc fi ic l bytes begun h opened e entered l₁ bytes′ h₁ inside e₁ piped l₂ h₂ ready e₂ bound h₃ set-up e₃ drawn l₃ h₄ shown e₄ ended l₄ h₅ outside e₅ closed h₆ queries = (
+  begun,
+  (
+    h (runsOf l bytes queries),
+    (
+      then entered (from caps opened begun (runsOf l bytes queries) (runsOf l₁ bytes′ queries) _ entered e (h₁ queries))
+          (then piped (from caps inside entered (runsOf l₁ bytes′ queries) (runsOf l₂ bytes′ queries) _ piped e₁ (h₂ bytes′ queries))
+          (then bound (from caps ready piped (runsOf l₂ bytes′ queries) (runsOf l₂ bytes′ queries) _ bound e₂ (h₃ (runsOf l₂ bytes′ queries)))
+          (then drawn (from caps set-up bound (runsOf l₂ bytes′ queries) (runsOf l₃ bytes′ queries) _ drawn e₃ (h₄ bytes′ queries))
+          (then ended (from caps shown drawn (runsOf l₃ bytes′ queries) (runsOf l₄ bytes′ queries) _ ended e₄ (h₅ bytes′ queries))
+          (then closed (from caps outside ended (runsOf l₄ bytes′ queries) (runsOf l₄ bytes′ queries) _ closed e₅ (h₆ (runsOf l₄ bytes′ queries))) done))))),
+      refl,
+    ),
+  ),
+)

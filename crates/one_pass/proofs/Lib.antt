@@ -1,4 +1,2 @@
-pub mod Keeping
-pub mod BegunKept
 pub mod Chain
 pub mod InOrder

@@ -1,73 +1,34 @@
-// A whole list, recorded by one function: `begin_encoding`, a render pass with one pipeline, one
-// vertex buffer and one draw, and `end_encoding`. The contract cites specs/Script.antt; what the
-// order theorem says of it stands in proofs/InOrder.antt.
-mod by_value;
-mod kept;
-mod written;
-
-ghost use Rattle.one_pass.specs.Script.{passOf, Shoots, Records};
-use crate::by_value::begin_render_pass_by_value;
-use crate::by_value::draw_by_value;
-use crate::by_value::end_render_pass_by_value;
-use crate::by_value::set_render_pipeline_by_value;
-use crate::kept::Kept;
+// A whole list, recorded by one function over lent runs with the public calls: `begin_encoding`, a
+// render pass with one pipeline, one vertex buffer and one draw, and `end_encoding`. What the order
+// theorem says of the list that it hands back stands in specs/InOrder.antt.
+ghost use mathlib.Core.Path.{_≡_};
+ghost use Rattle.one_pass.specs.Script.{passOf, Records};
 use calls::encoding::begin_encoding;
 use calls::encoding::end_encoding;
 use calls::encoding::set_vertex_buffer;
+use draw_calls::draws::draw;
+use pass_calls::begins::begin_render_pass;
+use pass_calls::ends::end_render_pass;
+use pipeline_calls::render::set_render_pipeline;
 use records::command::Record;
-use records::limits::MAX_COMMANDS;
 use records::pass::RenderPassDescriptor;
 use records::pipeline::PrivateCapabilities;
 use records::pipeline::RenderPipeline;
+use records::state::Answer;
 use records::state::State;
 
-// The vertex buffer of a slot, and the draw.
-pub struct Shot {
-    pub slot: u32,
-    pub buffer: u32,
-    pub offset: u64,
-    pub first_vertex: u32,
-    pub vertex_count: u32,
-    pub first_instance: u32,
-    pub instance_count: u32,
-}
-
-// The vertex buffer is bound and drawn from, the pass and the list are ended.
-fn draw_and_end(
-    list: [Record; MAX_COMMANDS],
-    room: usize,
-    caps: PrivateCapabilities,
-    s: State,
-    shot: Shot,
-) -> Kept
-    ensures { λ r. ⌜ Shoots room caps s shot list r ⌝ }
+// The state that the next call is handed.
+fn next_state(a: Answer) -> State
+    ensures { λ r. ⌜ r ≡ a .state ⌝ }
 {
-    let bound = set_vertex_buffer(caps, s, shot.slot, shot.buffer, shot.offset);
-    let ready = bound.state;
-    let drawn = draw_by_value(
-        list,
-        room,
-        caps,
-        ready,
-        shot.first_vertex,
-        shot.vertex_count,
-        shot.first_instance,
-        shot.instance_count,
-    );
-    let shown = drawn.list;
-    let answer = drawn.answer;
-    let after = answer.state;
-    let ended = end_render_pass_by_value(shown, room, caps, after);
-    let last = ended.list;
-    let end = ended.answer;
-    let outside = end.state;
-    let answer = end_encoding(caps, outside);
-    Kept { list: last, answer }
+    a.state
 }
 
+// `list` and `bytes` are written; `label` and the query set are read, as far as their counts say.
+// A call that is turned away leaves state and runs, and the next one is made all the same. The
+// answer is that of `end_encoding`.
 pub fn record_pass(
-    list: [Record; MAX_COMMANDS],
-    room: usize,
+    list: &mut [Record],
     bytes: &mut [u8],
     label: &[u8],
     set: &[u32],
@@ -78,15 +39,20 @@ pub fn record_pass(
     s: State,
     d: RenderPassDescriptor,
     p: RenderPipeline,
-    shot: Shot,
-) -> Kept
-    ensures { λ r. ⌜ Records room caps s (passOf d (record { present = «has_label»; bytes = record { run = now (label .entry); count = «label_count» } }) (record { run = now (set .entry); count = «set_count» }) p shot) list (now (bytes .entry)) r (now (bytes .exit)) ⌝ }
+    slot: u32,
+    buffer: u32,
+    offset: u64,
+    first_vertex: u32,
+    vertex_count: u32,
+    first_instance: u32,
+    instance_count: u32,
+) -> Answer
+    ensures { λ r. ⌜ Records caps s (passOf d (record { present = «has_label»; bytes = record { run = now (label .entry); count = «label_count» } }) (record { run = now (set .entry); count = «set_count» }) p slot buffer offset «first_vertex» «vertex_count» «first_instance» «instance_count») (now (list .entry)) (now (bytes .entry)) r (now (list .exit)) (now (bytes .exit)) ⌝ }
 {
     let begun = begin_encoding(caps, s);
-    let open = begun.state;
-    let pass = begin_render_pass_by_value(
+    let open = next_state(begun);
+    let entered = begin_render_pass(
         list,
-        room,
         bytes,
         label,
         set,
@@ -97,12 +63,22 @@ pub fn record_pass(
         open,
         d,
     );
-    let first = pass.list;
-    let answer = pass.answer;
-    let inside = answer.state;
-    let piped = set_render_pipeline_by_value(first, room, caps, inside, p);
-    let second = piped.list;
-    let set_up = piped.answer;
-    let ready = set_up.state;
-    draw_and_end(second, room, caps, ready, shot)
+    let inside = next_state(entered);
+    let piped = set_render_pipeline(list, caps, inside, p);
+    let ready = next_state(piped);
+    let bound = set_vertex_buffer(caps, ready, slot, buffer, offset);
+    let set_up = next_state(bound);
+    let drawn = draw(
+        list,
+        caps,
+        set_up,
+        first_vertex,
+        vertex_count,
+        first_instance,
+        instance_count,
+    );
+    let shown = next_state(drawn);
+    let ended = end_render_pass(list, caps, shown);
+    let outside = next_state(ended);
+    end_encoding(caps, outside)
 }

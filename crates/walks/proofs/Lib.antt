@@ -3,6 +3,8 @@ pub mod Calls
 pub mod Filled
 pub mod Filling
 pub mod FillingFrom
+pub mod Held
+pub mod Lent
 pub mod Listing
 pub mod Passing
 pub mod Reading
@@ -11,3 +13,6 @@ pub mod Recording
 pub mod RecordingFrom
 pub mod Resolving
 pub mod Slices
+pub mod Straight
+pub mod StraightLists
+pub mod StraightRuns
