@@ -1,12 +1,13 @@
 -- The calls, one by one: passes, bindings, settings. Assumes nothing.
 use Prim.Native.Nat.{ℕ, _+_}
 use mathlib.Core.Path.{_≡_, refl, sym, ap, _∙_, subst}
-use mathlib.Core.Bool.{false, cond}
+use mathlib.Core.Bool.{Bool, true, false, cond, _||_}
 use mathlib.Core.List.{List, [], _∷_, _++_, map}
 use mathlib.Core.Option.{Option, none, some}
+use lib.Dec.{eqb}
 use lib.ListN.{take}
 use Rattle.mask.specs.Mask.{places}
-use Rattle.records.specs.Check.{some?}
+use Rattle.records.specs.Check.{some?, among, locations}
 use Rattle.records.specs.declared.command.AttributeDesc.{AttributeDesc}
 use Rattle.records.specs.declared.command.ColorF32.{ColorF32}
 use Rattle.records.specs.declared.command.Command.{Command}
@@ -93,11 +94,10 @@ play-begin caps d label set at m =
     m₁ = exec m (ResetFramebuffer (defaultFirst (placesOf d)))
 
 -- ---- the end of one: only attributes are unset
-unsetAct : AttributeDesc → Vertices → Vertices
+abbrev pub unsetAct : AttributeDesc → Vertices → Vertices
 unsetAct a v = putAttribute (a .location) none v
 
 play-end : (p : PassState) (l : List AttributeDesc) (m : Machine) → play m (endRenderCommands p (map unsetAttribute l)) ≡ withVertices (folded unsetAct l (m .gl .vertices)) m
-unfolding unsetAct
 play-end p l m =
     play-append m (map (resolveCommand (p .«render_size»)) resolves) (invalidate ++ (pop ++ (map unsetAttribute l ++ stamp)))
     ∙ ap (λ (n : Machine). play n (invalidate ++ (pop ++ (map unsetAttribute l ++ stamp)))) (idle-resolves (p .«render_size») resolves m)
@@ -121,6 +121,16 @@ play-end p l m =
     stamp : List Command
     stamp = timestamp (p .«end_of_pass_timestamp»)
 
+-- where nothing is set outside a list, nothing is set once the list is unset
+pub unset-all : (l : List AttributeDesc) (g : Vertices) (i : ℕ) → (among i (locations l) ≡ false → g .attribute i ≡ none) → folded unsetAct l g .attribute i ≡ none
+unfolding among
+unset-all [] g i h = h refl
+unset-all (a ∷ l) g i h = unset-all l (unsetAct a g) i (λ e. go (eqb i (a .location)) refl e)
+  where
+    go : (t : Bool) → eqb i (a .location) ≡ t → among i (locations l) ≡ false → cond t none (g .attribute i) ≡ none
+    go true q e = refl
+    go false q e = h (ap (λ (t : Bool). t || among i (locations l)) q ∙ e)
+
 module _ (caps : PrivateCapabilities) (s : State) (m : Machine) (b : Book) (T : Tied caps s m b) where
   pub by-begin-render : (d : RenderPassDescriptor) (label : Label) (set : Lent) (at : ℕ) (pass : PassState) (n k l : ℕ)
       → Tied caps (withProgress (counted Render n k l) (withPass pass s)) (play m (beginRenderCommands caps d label set at))
@@ -140,6 +150,7 @@ module _ (caps : PrivateCapabilities) (s : State) (m : Machine) (b : Book) (T : 
         units = T .units;
         lazy = T .lazy;
         steady = T .steady;
+        spare = T .spare;
         early = λ e. absurd (not-early (b .stage) e);
         slots = λ f. let E = T .early (begins (b .stage) f) in slots-start caps (s .vertex) (m .gl .vertices) (b .buffer) (E .vertex) (E .empty);
         piped = λ f p e. none-some (sym (T .early (begins (b .stage) f) .unset) ∙ e);
@@ -159,6 +170,7 @@ module _ (caps : PrivateCapabilities) (s : State) (m : Machine) (b : Book) (T : 
         units = T .units;
         lazy = record { bias = T .lazy .bias; alpha = T .lazy .alpha; clip = T .lazy .clip; targets = nothing (m .gl .fixed .target); primitive = λ ne. absurd (ne refl) };
         steady = record { long = T .steady .long };
+        spare = λ flat i e. unset-all (attributesOf (s .vertex)) (m .gl .vertices) i (T .spare flat i);
         early = λ e. absurd (late (b .stage) (subst (λ (p : Phase). Sane p (b .stage)) ph (T .sane)) e);
         slots = λ f. absurd f;
         piped = λ f. absurd f;
@@ -180,6 +192,7 @@ module _ (caps : PrivateCapabilities) (s : State) (m : Machine) (b : Book) (T : 
         units = units-grouped xs os (s .bind) (m .gl .bindings) (b .bound) ok (T .units) (groupPlayed xs os (m .gl .bindings)) (group-samplers xs os (m .gl .bindings));
         lazy = T .lazy;
         steady = T .steady;
+        spare = T .spare;
         early = T .early;
         slots = T .slots;
         piped = λ f p e.
@@ -216,6 +229,7 @@ module _ (caps : PrivateCapabilities) (s : State) (m : Machine) (b : Book) (T : 
         units = units-piped p (s .bind) (m .gl .bindings) (b .bound .samplers) (T .units);
         lazy = record { bias = T .lazy .bias; alpha = T .lazy .alpha; clip = T .lazy .clip; targets = T .lazy .targets; primitive = T .lazy .primitive };
         steady = record { long = T .steady .long };
+        spare = T .spare;
         early = T .early;
         slots = λ f. absurd (subst (λ (q : Phase). First q (b .stage)) ph f);
         piped = λ f. absurd (subst (λ (q : Phase). First q (b .stage)) ph f);
@@ -235,6 +249,7 @@ module _ (caps : PrivateCapabilities) (s : State) (m : Machine) (b : Book) (T : 
         units = T .units;
         lazy = T .lazy;
         steady = T .steady;
+        spare = T .spare;
         early = T .early;
         slots = T .slots;
         piped = λ f p e.
@@ -262,6 +277,7 @@ module _ (caps : PrivateCapabilities) (s : State) (m : Machine) (b : Book) (T : 
         units = T .units;
         lazy = T .lazy;
         steady = T .steady;
+        spare = T .spare;
         early = T .early;
         slots = T .slots;
         piped = λ f p e.
@@ -286,6 +302,7 @@ module _ (caps : PrivateCapabilities) (s : State) (m : Machine) (b : Book) (T : 
         units = T .units;
         lazy = record { bias = T .lazy .bias; alpha = T .lazy .alpha; clip = T .lazy .clip; targets = T .lazy .targets; primitive = T .lazy .primitive };
         steady = record { long = T .steady .long };
+        spare = T .spare;
         early = T .early;
         slots = T .slots;
         piped = λ f p e.

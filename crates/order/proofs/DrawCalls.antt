@@ -5,8 +5,9 @@ use mathlib.Core.Bool.{Bool, true, false, cond}
 use mathlib.Core.List.{List, [], _∷_, _++_, map, append-assoc, append-nil}
 use mathlib.Core.Option.{Option, some}
 use native.Mathlib.Omega.{arith}
-use Rattle.tables.specs.Tabulate.{tabulate}
+use Rattle.tables.specs.Tabulate.{tabulate, upd-other}
 use Rattle.mask.specs.Mask.{testBit, places}
+use Rattle.records.specs.Check.{among, locations}
 use Rattle.records.specs.declared.command.AttributeDesc.{AttributeDesc}
 use Rattle.records.specs.declared.command.Command.{Command}
 use Rattle.records.specs.declared.pipeline.PrivateCapabilities.{PrivateCapabilities}
@@ -16,7 +17,7 @@ use Rattle.records.specs.declared.state.Phase.the-variants.{Render}
 use Rattle.records.specs.declared.state.Progress.{Progress}
 use Rattle.records.specs.declared.state.State.{State}
 use Rattle.records.specs.declared.state.VertexState.{VertexState}
-use Rattle.slots.specs.Vertex.{instanceAt}
+use Rattle.slots.specs.Vertex.{instanceAt, attributesOf}
 use Rattle.slots.specs.Prepare.{rebound, bufferCommand, bufferCommands, attributeCommand, attributeCommands, sent, prepared, preparedState}
 use Rattle.pipeline.specs.Vertex.{attributesIn, has}
 use Rattle.calls.specs.Draws.{DrawArgs}
@@ -24,11 +25,13 @@ use Rattle.calls.specs.Parts.{withProgress, drawArgs, drawn}
 use Rattle.machine.specs.Each.{Each}
 use Rattle.machine.specs.View.{Stage, before, first, later}
 use Rattle.machine.specs.Machine.{Attribute, Vertices, Shot, Machine, withVertices, noted, shoot, exec, play}
-use Rattle.machine.specs.Found.{viewOf}
+use Rattle.machine.specs.Found.{attributesBy, viewOf}
 use Rattle.book.specs.Book.{Book, Entered, entered, enterDraw, enterDraws, inFirst, names}
 use Rattle.book.specs.Premise.{Ready}
+use Rattle.machine.proofs.Lists.{elsewhere}
 use Rattle.machine.proofs.Sweep.{play-append, folded, played}
-use Rattle.order.proofs.Invariant.{First, Sane, Agree, slotBuffer, attributeBuffer, sentAttribute, Fetched, Piped, Tied}
+use Rattle.order.proofs.Invariant.{First, Sane, Drew, Agree, slotBuffer, attributeBuffer, sentAttribute, Spare, Fetched, Piped, Tied}
+use Rattle.order.proofs.Sifted.{spared}
 use Rattle.order.proofs.Prepared.{bufferAct, attributeAct, slot-after, slot-read, attribute-kept, attributes-after, attributes-own}
 use Rattle.order.proofs.Drawing.{Fresh, argsOf, args-are, view-is}
 use Rattle.order.proofs.Keeps.{first-is, is-first, late}
@@ -42,26 +45,28 @@ notedAll before xs l = l
 notedAll first xs l = l ++ xs
 notedAll later xs l = l
 
-pub agree-append : (ss ss′ : List Shot) (ds ds′ : List Entered) → Agree ss ds → Agree ss′ ds′ → Agree (ss ++ ss′) (ds ++ ds′)
-agree-append [] ss′ [] ds′ a a′ = a′
-agree-append [] ss′ (d ∷ ds) ds′ a a′ = absurd a
-agree-append (s ∷ ss) ss′ [] ds′ a a′ = absurd a
-agree-append (s ∷ ss) ss′ (d ∷ ds) ds′ a a′ = (a .0, agree-append ss ss′ ds ds′ (a .1) a′)
+module _ (caps : PrivateCapabilities) where
+  pub agree-append : (ss ss′ : List Shot) (ds ds′ : List Entered) → Agree caps ss ds → Agree caps ss′ ds′ → Agree caps (ss ++ ss′) (ds ++ ds′)
+  agree-append [] ss′ [] ds′ a a′ = a′
+  agree-append [] ss′ (d ∷ ds) ds′ a a′ = absurd a
+  agree-append (s ∷ ss) ss′ [] ds′ a a′ = absurd a
+  agree-append (s ∷ ss) ss′ (d ∷ ds) ds′ a a′ = (a .0, agree-append ss ss′ ds ds′ (a .1) a′)
 
-one-noted : (st : Stage) (s : Shot) (d : Entered) (ss : List Shot) (ds : List Entered) → Agree ss ds → (st ≡ first → viewOf (d .pipeline) s ≡ d .view) → Agree (noted st s ss) (inFirst st (d ∷ []) ds)
-one-noted before s d ss ds a h = a
-one-noted first s d ss ds a h = agree-append ss (s ∷ []) ds (d ∷ []) a (h refl, tt)
-one-noted later s d ss ds a h = a
+  one-noted : (st : Stage) (s : Shot) (d : Entered) (ss : List Shot) (ds : List Entered) → Agree caps ss ds → (st ≡ first → Drew caps s d) → Agree caps (noted st s ss) (inFirst st (d ∷ []) ds)
+  one-noted before s d ss ds a h = a
+  one-noted first s d ss ds a h = agree-append ss (s ∷ []) ds (d ∷ []) a (h refl, tt)
+  one-noted later s d ss ds a h = a
 
-all-noted : (st : Stage) (xs : List Shot) (ys : List Entered) (ss : List Shot) (ds : List Entered) → Agree ss ds → (st ≡ first → Agree xs ys) → Agree (notedAll st xs ss) (inFirst st ys ds)
-all-noted before xs ys ss ds a h = a
-all-noted first xs ys ss ds a h = agree-append ss xs ds ys a (h refl)
-all-noted later xs ys ss ds a h = a
+  all-noted : (st : Stage) (xs : List Shot) (ys : List Entered) (ss : List Shot) (ds : List Entered) → Agree caps ss ds → (st ≡ first → Agree caps xs ys)
+      → Agree caps (notedAll st xs ss) (inFirst st ys ds)
+  all-noted before xs ys ss ds a h = a
+  all-noted first xs ys ss ds a h = agree-append ss xs ds ys a (h refl)
+  all-noted later xs ys ss ds a h = a
 
-agree-table : (n : ℕ) (f : ℕ → Shot) (g : ℕ → Entered) → ((i : ℕ) → i < n → viewOf (g i .pipeline) (f i) ≡ g i .view) → Agree (tabulate n f) (tabulate n g)
-unfolding tabulate
-agree-table zero f g h = tt
-agree-table (suc n) f g h = (h 0 (omega arith), agree-table n (λ i. f (suc i)) (λ i. g (suc i)) (λ i l. h (suc i) (omega arith)))
+  agree-table : (n : ℕ) (f : ℕ → Shot) (g : ℕ → Entered) → ((i : ℕ) → i < n → Drew caps (f i) (g i)) → Agree caps (tabulate n f) (tabulate n g)
+  unfolding tabulate
+  agree-table zero f g h = tt
+  agree-table (suc n) f g h = (h 0 (omega arith), agree-table n (λ i. f (suc i)) (λ i. g (suc i)) (λ i l. h (suc i) (omega arith)))
 
 -- ---- a run of draws, on the machine
 shotAll : Bool → ℕ → (ℕ → Command) → Machine → Machine
@@ -170,6 +175,15 @@ module _ (caps : PrivateCapabilities) (s : State) (m : Machine) (b : Book) (T : 
       go [] h = tt
       go (a ∷ l) h = ((λ e x. h .0 x), go l (h .1))
 
+  -- the sweep sets no attribute outside the state's list
+  spare-after : Spare caps v g′
+  unfolding g′ preparedPlayed
+  spare-after flat i e =
+      ap (λ (t : Bool). cond t (folded (bufferAct v w) (places (rebound v w)) g) (folded (attributeAct v w) (sent v w) g) .attribute i) flat
+      ∙ spared (attributeAct v w) (λ (x : Vertices). x .attribute) (λ a x j ne. upd-other (x .attribute) (a .location) j (some (attributeBuffer v w a)) ne)
+      (rebound v w) (attributesOf v) i (elsewhere i (attributesOf v) e) g
+      ∙ T .spare flat i e
+
   swept : (n k l : ℕ) → Tied caps (withProgress (counted (s .progress .phase) n k l) (drawn caps w s)) (withVertices g′ m) b
   swept n k l =
       record {
@@ -182,6 +196,7 @@ module _ (caps : PrivateCapabilities) (s : State) (m : Machine) (b : Book) (T : 
         units = T .units;
         lazy = T .lazy;
         steady = record { long = T .steady .long };
+        spare = spare-after;
         early = λ e. absurd (late (b .stage) (subst (λ (p : Phase). Sane p (b .stage)) ph (T .sane)) e);
         slots = λ f.
             record {
@@ -215,6 +230,18 @@ module _ (caps : PrivateCapabilities) (s : State) (m : Machine) (b : Book) (T : 
       fresh′ : {p : RenderPipeline} → Fresh caps v g′ (b .buffer) p w → Fresh caps (preparedState caps v w) g′ (b .buffer) p w
       fresh′ F = record { slots = F .slots; attributes = F .attributes }
 
+  -- and it finds no attribute beside
+  drew : (b .stage ≡ first → Ready b) → (indexed : Bool) (c : DrawArgs → Command) → b .stage ≡ first
+      → Drew caps (record { command = c (drawArgs (s .draw)); indexed = indexed; gl = withVertices g′ m .gl }) (entered b (names b w indexed (c (argsOf b))))
+  drew ready indexed c st = (
+    viewed ready indexed c st,
+    λ flat i e.
+        let R = ready st in
+        let f : First (s .progress .phase) (b .stage) = subst (λ (q : Phase). First q (b .stage)) (sym ph) (is-first (b .stage) st) in
+        let held = T .piped f (R .pipeline) (R .is) .fetched .held flat ∙ sym (ap attributesBy (R .is)) in
+        spare-after flat i (ap (λ (l : List AttributeDesc). among i (locations l)) held ∙ e),
+  )
+
   -- ---- one draw
   pub by-draw : (b .stage ≡ first → Ready b) → (indexed : Bool) (c : DrawArgs → Command) → ((a : DrawArgs) (x : Machine) → exec x (c a) ≡ shoot indexed (c a) x) → (n k l : ℕ)
       → Tied caps (withProgress (counted (s .progress .phase) n k l) (drawn caps w s)) (play m (prepared caps v w ++ (c (drawArgs (s .draw)) ∷ []))) (enterDraw w indexed (c (argsOf b)) b)
@@ -227,14 +254,15 @@ module _ (caps : PrivateCapabilities) (s : State) (m : Machine) (b : Book) (T : 
         stage = T′ .stage;
         sane = T′ .sane;
         log =
-            subst (λ (st : Stage). Agree (noted st (record { command = c (drawArgs (s .draw)); indexed = indexed; gl = withVertices g′ m .gl }) (m .shots)) (enterDraw w indexed (c (argsOf b)) b .draws)) (sym (T .stage))
-            (one-noted (b .stage) (record { command = c (drawArgs (s .draw)); indexed = indexed; gl = withVertices g′ m .gl }) (entered b (names b w indexed (c (argsOf b)))) (m .shots) (b .draws) (T .log) (viewed ready indexed c));
+            subst (λ (st : Stage). Agree caps (noted st (record { command = c (drawArgs (s .draw)); indexed = indexed; gl = withVertices g′ m .gl }) (m .shots)) (enterDraw w indexed (c (argsOf b)) b .draws)) (sym (T .stage))
+            (one-noted caps (b .stage) (record { command = c (drawArgs (s .draw)); indexed = indexed; gl = withVertices g′ m .gl }) (entered b (names b w indexed (c (argsOf b)))) (m .shots) (b .draws) (T .log) (drew ready indexed c));
         screen = record { viewport = T .screen .viewport; scissor = T .screen .scissor; blend = T .screen .blend };
         res = T′ .res;
         args = record { format = T .args .format; offset = T .args .offset };
         units = T′ .units;
         lazy = T′ .lazy;
         steady = T′ .steady;
+        spare = T′ .spare;
         early = T′ .early;
         slots = T′ .slots;
         piped = T′ .piped;
@@ -259,15 +287,16 @@ module _ (caps : PrivateCapabilities) (s : State) (m : Machine) (b : Book) (T : 
         stage = T′ .stage;
         sane = T′ .sane;
         log =
-            subst (λ (st : Stage). Agree (notedAll st (tabulate count shot) (m .shots)) (enterDraws indexed (c (argsOf b)) count b .draws)) (sym (T .stage))
-            (all-noted (b .stage) (tabulate count shot) (tabulate count entry) (m .shots) (b .draws) (T .log)
-            (λ st. agree-table count shot entry (λ i h. viewed caps s m b T ph 0 (λ x. ready x (omega arith)) indexed (λ a. c a i) st)));
+            subst (λ (st : Stage). Agree caps (notedAll st (tabulate count shot) (m .shots)) (enterDraws indexed (c (argsOf b)) count b .draws)) (sym (T .stage))
+            (all-noted caps (b .stage) (tabulate count shot) (tabulate count entry) (m .shots) (b .draws) (T .log)
+            (λ st. agree-table caps count shot entry (λ i h. drew caps s m b T ph 0 (λ x. ready x (omega arith)) indexed (λ a. c a i) st)));
         screen = record { viewport = T .screen .viewport; scissor = T .screen .scissor; blend = T .screen .blend };
         res = T′ .res;
         args = record { format = T .args .format; offset = T .args .offset };
         units = T′ .units;
         lazy = T′ .lazy;
         steady = T′ .steady;
+        spare = T′ .spare;
         early = T′ .early;
         slots = T′ .slots;
         piped = T′ .piped;

@@ -20,7 +20,7 @@ use Rattle.machine.specs.View.{View}
 use Rattle.machine.specs.Machine.{Shot, Machine, fresh, play}
 use Rattle.book.specs.Book.{Entered, Book, empty, enter, enterFed, bookOf}
 use Rattle.machine.proofs.Sweep.{play-append}
-use Rattle.order.proofs.Invariant.{Agree, Tied}
+use Rattle.order.proofs.Invariant.{Agree, Spare, Tied}
 use Rattle.order.proofs.Keeps.{started}
 use Rattle.book.specs.Premise.{Premise}
 use Rattle.order.proofs.Accept.{resumed, accepts}
@@ -124,19 +124,27 @@ all-calls caps rooms r b (c ∷ cs) R P = all-calls caps rooms (record-call caps
 pub began : (caps : PrivateCapabilities) (rooms : Rooms) (s : State) → carried caps rooms s begin-encoding ≡ true → Right caps (begun caps rooms s) empty
 began caps rooms s e = subst (λ (x : State). Right caps (beginning x) empty) (sym (ap (λ (t : Bool). cond t (withProgress (progressAfter (meaning caps s begin-encoding)) (meaning caps s begin-encoding .after)) s) e)) (record { counted = refl; tied = started caps 0 0 0 })
 
+-- ---- what the whole list leaves
+-- at each draw what the book names; without layouts no attribute is set but at its pipeline's locations (request 3)
 pub all-agree : (caps : PrivateCapabilities) (rooms : Rooms) (s : State) (calls : List Call) → carried caps rooms s begin-encoding ≡ true → Premises caps empty (fed caps rooms (begun caps rooms s .state) calls)
-    → Agree (play fresh (record-calls caps rooms (begun caps rooms s) calls .list) .shots) (bookOf caps empty (fed caps rooms (begun caps rooms s .state) calls) .draws)
+    → Agree caps (play fresh (record-calls caps rooms (begun caps rooms s) calls .list) .shots) (bookOf caps empty (fed caps rooms (begun caps rooms s .state) calls) .draws)
 all-agree caps rooms s calls e P = all-calls caps rooms (begun caps rooms s) empty calls (began caps rooms s e) P .tied .log
 
--- ---- the log as an equation
-pub as-many : (ss : List Shot) (ds : List Entered) → Agree ss ds → length ss ≡ length ds
-as-many [] [] a = refl
-as-many [] (d ∷ ds) a = absurd a
-as-many (s ∷ ss) [] a = absurd a
-as-many (s ∷ ss) (d ∷ ds) a = ap suc (as-many ss ds (a .1))
+-- and after it, without layouts, none but at the locations of the state's list, which a pass's end empties: the machine between passes (request 13)
+pub all-spare : (caps : PrivateCapabilities) (rooms : Rooms) (s : State) (calls : List Call) → carried caps rooms s begin-encoding ≡ true
+    → Premises caps empty (fed caps rooms (begun caps rooms s .state) calls)
+    → Spare caps (record-calls caps rooms (begun caps rooms s) calls .state .vertex) (play fresh (record-calls caps rooms (begun caps rooms s) calls .list) .gl .vertices)
+all-spare caps rooms s calls e P = all-calls caps rooms (begun caps rooms s) empty calls (began caps rooms s e) P .tied .spare
 
-pub found-is : (ss : List Shot) (ds : List Entered) → Agree ss ds → found ds ss ≡ map (λ (d : Entered). d .view) ds
-found-is [] [] a = refl
-found-is [] (d ∷ ds) a = absurd a
-found-is (s ∷ ss) [] a = absurd a
-found-is (s ∷ ss) (d ∷ ds) a = ap₂ (λ (v : View) (vs : List View). v ∷ vs) (a .0) (found-is ss ds (a .1))
+-- ---- the log as an equation
+pub as-many : (caps : PrivateCapabilities) (ss : List Shot) (ds : List Entered) → Agree caps ss ds → length ss ≡ length ds
+as-many caps [] [] a = refl
+as-many caps [] (d ∷ ds) a = absurd a
+as-many caps (s ∷ ss) [] a = absurd a
+as-many caps (s ∷ ss) (d ∷ ds) a = ap suc (as-many caps ss ds (a .1))
+
+pub found-is : (caps : PrivateCapabilities) (ss : List Shot) (ds : List Entered) → Agree caps ss ds → found ds ss ≡ map (λ (d : Entered). d .view) ds
+found-is caps [] [] a = refl
+found-is caps [] (d ∷ ds) a = absurd a
+found-is caps (s ∷ ss) [] a = absurd a
+found-is caps (s ∷ ss) (d ∷ ds) a = ap₂ (λ (v : View) (vs : List View). v ∷ vs) (a .0 .0) (found-is caps ss ds (a .1))

@@ -13,6 +13,7 @@ use Rattle.names.specs.Maps.{primitiveTopology, primitiveState}
 use Rattle.names.specs.declared.gl.StencilSide.{StencilSide}
 use Rattle.names.specs.declared.gl.StencilState.{StencilState}
 use Rattle.records.specs.Start.{startVertex}
+use Rattle.records.specs.Check.{among, locations}
 use Rattle.records.specs.declared.command.AttributeDesc.{AttributeDesc}
 use Rattle.records.specs.declared.command.BufferBinding.{BufferBinding}
 use Rattle.records.specs.declared.command.OptionU32.{OptionU32}
@@ -36,7 +37,7 @@ use Rattle.pipeline.specs.Vertex.{pipeDesc, attributesIn, has, stepsByInstance,
 use Rattle.pipeline.specs.Fixed.{aspectsOf, targetsIn, targetsOf}
 use Rattle.machine.specs.View.{Stage, before, first, later}
 use Rattle.machine.specs.Machine.{Attribute, VertexBuffer, Vertices, Bindings, Screen, Fixed, Faces, Gl, Shot, Machine}
-use Rattle.machine.specs.Found.{viewOf, facesOf}
+use Rattle.machine.specs.Found.{viewOf, attributesBy, facesOf}
 use Rattle.book.specs.Book.{References, Bound, Entered, Book, hasDepth, hasStencil, namedDepth, namedFaces}
 use Rattle.machine.specs.Each.{Each}
 
@@ -59,12 +60,21 @@ Sane Render before = ⊥
 Sane Render first = Unit {0}
 Sane Render later = Unit {0}
 
--- ---- the draws: as many on both sides, and each finds what is named
-abbrev pub Agree : List Shot → List Entered → Type 0
-Agree [] [] = Unit {0}
-Agree [] (d ∷ ds) = ⊥
-Agree (s ∷ ss) [] = ⊥
-Agree (s ∷ ss) (d ∷ ds) = (viewOf (d .pipeline) s ≡ d .view) × Agree ss ds
+-- ---- the draws
+-- without layouts no attribute is set but at the pipeline's locations
+abbrev pub Bare : PrivateCapabilities → Option RenderPipeline → Shot → Type 0
+Bare caps p s = caps .«vertex_buffer_layout» ≡ false → (i : ℕ) → among i (locations (attributesBy p)) ≡ false → s .gl .vertices .attribute i ≡ none
+
+-- a draw finds what is named, and is bare
+abbrev pub Drew : PrivateCapabilities → Shot → Entered → Type 0
+Drew caps s d = (viewOf (d .pipeline) s ≡ d .view) × Bare caps (d .pipeline) s
+
+-- as many on both sides, each such
+abbrev pub Agree : PrivateCapabilities → List Shot → List Entered → Type 0
+Agree caps [] [] = Unit {0}
+Agree caps [] (d ∷ ds) = ⊥
+Agree caps (s ∷ ss) [] = ⊥
+Agree caps (s ∷ ss) (d ∷ ds) = Drew caps s d × Agree caps ss ds
 
 -- ---- what each call sends at once
 pub record ScreenTied (g : Screen) (b : Book) : Type 0 where
@@ -115,6 +125,10 @@ attributeBuffer v w a =
 -- in every pass: sixteen slots
 pub record Steady (v : VertexState) : Type 0 where
   pub long : length (v .buffers) ≡ 16
+
+-- in every pass and between them: without layouts no attribute is set but at the locations of the state's list
+abbrev pub Spare : PrivateCapabilities → VertexState → Vertices → Type 0
+Spare caps v g = caps .«vertex_buffer_layout» ≡ false → (i : ℕ) → among i (locations (attributesOf v)) ≡ false → g .attribute i ≡ none
 
 pub record Slots (caps : PrivateCapabilities) (v : VertexState) (g : Vertices) (buffer : ℕ → Option BufferBinding) : Type 0 where
   -- a slot that the book has a buffer for is bound to it
@@ -190,13 +204,14 @@ pub record Early (v : VertexState) (pipeline : Option RenderPipeline) (buffer : 
 pub record Tied (caps : PrivateCapabilities) (s : State) (m : Machine) (b : Book) : Type 0 where
   pub stage : m .stage ≡ b .stage
   pub sane : Sane (s .progress .phase) (b .stage)
-  pub log : Agree (m .shots) (b .draws)
+  pub log : Agree caps (m .shots) (b .draws)
   pub screen : ScreenTied (m .gl .screen) b
   pub res : ResTied (m .gl .bindings) (b .bound) (b .index)
   pub args : ArgsTied (s .draw) b
   pub units : Units (s .bind) (m .gl .bindings .samplers) (b .bound .samplers)
   pub lazy : Lazy (s .fixed) (m .gl .fixed)
   pub steady : Steady (s .vertex)
+  pub spare : Spare caps (s .vertex) (m .gl .vertices)
   pub early : b .stage ≡ before → Early (s .vertex) (b .pipeline) (b .buffer)
   pub slots : First (s .progress .phase) (b .stage) → Slots caps (s .vertex) (m .gl .vertices) (b .buffer)
   pub piped : First (s .progress .phase) (b .stage) → (p : RenderPipeline) → b .pipeline ≡ some p → Piped caps s (m .gl) (b .reference) p

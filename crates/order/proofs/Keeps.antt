@@ -101,6 +101,7 @@ started caps n k l =
       units = record { samplers-long = refl; units-long = refl; same = λ k l. none-set k; taken = λ u l. none-taken u };
       lazy = record { bias = refl; alpha = refl; clip = λ j i. sym (le-ltb i 0 zero-le) j; targets = no-targets; primitive = λ ne. absurd (ne refl) };
       steady = record { long = refl };
+      spare = λ flat i e. refl;
       early = λ e. record { vertex = refl; unset = refl; empty = λ i. refl };
       slots = λ l. absurd l;
       piped = λ l. absurd l;
@@ -119,14 +120,14 @@ module _ (caps : PrivateCapabilities) (s : State) (m : Machine) (b : Book) (T : 
   -- only the counts change
   pub recounted : (n k l : ℕ) → Tied caps (withProgress (record { phase = s .progress .phase; commands = n; bytes = k; queries = l }) s) m b
   recounted n k l =
-      record { stage = T .stage; sane = T .sane; log = T .log; screen = T .screen; res = T .res; args = T .args; units = T .units; lazy = T .lazy; steady = T .steady; early = T .early; slots = T .slots; piped = λ f p e. let P = T .piped f p e in record { drawn = P .drawn; set = P .set; stenciled = P .stenciled; numbered = P .numbered; fetched = P .fetched } }
+      record { stage = T .stage; sane = T .sane; log = T .log; screen = T .screen; res = T .res; args = T .args; units = T .units; lazy = T .lazy; steady = T .steady; spare = T .spare; early = T .early; slots = T .slots; piped = λ f p e. let P = T .piped f p e in record { drawn = P .drawn; set = P .set; stenciled = P .stenciled; numbered = P .numbered; fetched = P .fetched } }
 
   -- a call whose commands set nothing and that changes only the parts that no draw finds
   pub idles : (cs : List Command) → Idle cs → (pass : PassState) (i : ImmediateState) (n k l : ℕ)
       → Tied caps (withProgress (record { phase = s .progress .phase; commands = n; bytes = k; queries = l }) (withPass pass (withImmediates i s))) (play m cs) b
   idles cs h pass i n k l =
       subst (λ (x : Machine). Tied caps (withProgress (record { phase = s .progress .phase; commands = n; bytes = k; queries = l }) (withPass pass (withImmediates i s))) x b) (sym (h m))
-      (record { stage = T .stage; sane = T .sane; log = T .log; screen = T .screen; res = T .res; args = T .args; units = T .units; lazy = T .lazy; steady = T .steady; early = T .early; slots = T .slots; piped = λ f p e. repiped (T .piped f p e) })
+      (record { stage = T .stage; sane = T .sane; log = T .log; screen = T .screen; res = T .res; args = T .args; units = T .units; lazy = T .lazy; steady = T .steady; spare = T .spare; early = T .early; slots = T .slots; piped = λ f p e. repiped (T .piped f p e) })
     where
       repiped : {r : Option References} {p : RenderPipeline} → Piped caps s (m .gl) r p → Piped caps (withProgress (record { phase = s .progress .phase; commands = n; bytes = k; queries = l }) (withPass pass (withImmediates i s))) (m .gl) r p
       repiped P = record { drawn = P .drawn; set = P .set; stenciled = P .stenciled; numbered = P .numbered; fetched = P .fetched }
@@ -146,6 +147,7 @@ module _ (caps : PrivateCapabilities) (s : State) (m : Machine) (b : Book) (T : 
         units = T .units;
         lazy = T .lazy;
         steady = T .steady;
+        spare = T .spare;
         early = T .early;
         slots = λ f. absurd (shut (b .stage) f);
         piped = λ f. absurd (shut (b .stage) f);

@@ -324,7 +324,7 @@ pub order-of-run : OrderOfRun
 order-of-run caps s₀ s′ r₀ r r′ a calls d e R P =
     subst
     (λ (fs : List Fed). (length (play fresh (commandsOf s′ r′) .shots) ≡ length (bookOf caps empty fs .draws)) × (found (bookOf caps empty fs .draws) (play fresh (commandsOf s′ r′) .shots) ≡ named (bookOf caps empty fs .draws)))
-    (sym same) (as-many (play fresh (commandsOf s′ r′) .shots) ds agree, found-is (play fresh (commandsOf s′ r′) .shots) ds agree)
+    (sym same) (as-many caps (play fresh (commandsOf s′ r′) .shots) ds agree, found-is caps (play fresh (commandsOf s′ r′) .shots) ds agree)
   where
     B : Begun caps r a
     B = begun-run caps s₀ r₀ r a d e
@@ -338,7 +338,7 @@ order-of-run caps s₀ s′ r₀ r r′ a calls d e R P =
     list : commandsOf s′ r′ ≡ record-calls caps (roomsOf r) (beginning (a .state)) calls .list
     list = ap (λ (y : Recording). y .list) (ran-begun caps B R)
 
-    agree : Agree (play fresh (commandsOf s′ r′) .shots) ds
+    agree : Agree caps (play fresh (commandsOf s′ r′) .shots) ds
     agree =
-        subst (λ (l : List Command). Agree (play fresh l .shots) ds) (sym list)
+        subst (λ (l : List Command). Agree caps (play fresh l .shots) ds) (sym list)
         (all-calls caps (roomsOf r) (beginning (a .state)) empty calls (B .right) (subst (Premises caps empty) same P) .tied .log)

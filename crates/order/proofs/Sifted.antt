@@ -1,6 +1,6 @@
 -- Attributes sent by a mask of slots, played: the ones of the mask are set, each at its own location, and the others left. Assumes nothing.
 use Prim.Native.Nat.{ℕ}
-use mathlib.Core.Path.{_≡_, ap, _∙_}
+use mathlib.Core.Path.{_≡_, refl, sym, ap, _∙_}
 use mathlib.Core.Bool.{Bool, true, false, cond}
 use mathlib.Core.List.{List, [], _∷_}
 use Rattle.mask.specs.Mask.{testBit}
@@ -9,15 +9,22 @@ use Rattle.records.specs.declared.command.AttributeDesc.{AttributeDesc}
 use Rattle.slots.specs.Prepare.{sentOf}
 use Rattle.machine.specs.Each.{Each}
 use Rattle.machine.proofs.Lists.{each-with, apart, apart-rest, elsewhere}
-use Rattle.machine.proofs.Sweep as sweep
 use Rattle.machine.proofs.Sweep.{folded}
+
+module _ {G W : Type 0} (act : AttributeDesc → G → G) (read : G → ℕ → W) (other : (a : AttributeDesc) (g : G) (i : ℕ) → (i ≡ a .location → ⊥) → read (act a g) i ≡ read g i) where
+  -- a location that none of the list has is left alone
+  pub spared : (m : ℕ) (l : List AttributeDesc) (i : ℕ) → Each (λ (a : AttributeDesc). a .location ≡ i → ⊥) l → (g : G) → read (folded act (sentOf m l) g) i ≡ read g i
+  unfolding sentOf
+  spared m [] i h g = refl
+  spared m (a ∷ l) i h g = go (testBit m (a .«buffer_index»)) (spared m l i (h .1))
+    where
+      go : (t : Bool) → ((g : G) → read (folded act (sentOf m l) g) i ≡ read g i) → read (folded act (cond t (a ∷ sentOf m l) (sentOf m l)) g) i ≡ read g i
+      go true ih = ih (act a g) ∙ other a g i (λ e. h .0 (sym e))
+      go false ih = ih g
 
 module _ {G W : Type 0} (act : AttributeDesc → G → G) (read : G → ℕ → W) (value : AttributeDesc → W)
     (here : (a : AttributeDesc) (g : G) → read (act a g) (a .location) ≡ value a)
     (other : (a : AttributeDesc) (g : G) (i : ℕ) → (i ≡ a .location → ⊥) → read (act a g) i ≡ read g i) where
-  passed : (l : List AttributeDesc) (g : G) (i : ℕ) → Each (λ (a : AttributeDesc). a .location ≡ i → ⊥) l → read (folded act l g) i ≡ read g i
-  passed = sweep.passed act read value here other
-
   -- the ones of a mask of slots are set, and the others left
   pub sifted : (m : ℕ) (l : List AttributeDesc) → twice (locations l) ≡ false → (g : G)
       → Each (λ (a : AttributeDesc). read (folded act (sentOf m l) g) (a .location) ≡ cond (testBit m (a .«buffer_index»)) (value a) (read g (a .location))) l
@@ -27,14 +34,6 @@ module _ {G W : Type 0} (act : AttributeDesc → G → G) (read : G → ℕ → 
     where
       far : Each (λ (x : AttributeDesc). x .location ≡ a .location → ⊥) l
       far = elsewhere (a .location) l (apart a l e)
-
-      fewer : (k : List AttributeDesc) → Each (λ (x : AttributeDesc). x .location ≡ a .location → ⊥) k → Each (λ (x : AttributeDesc). x .location ≡ a .location → ⊥) (sentOf m k)
-      fewer [] h = tt
-      fewer (x ∷ k) h = pick (testBit m (x .«buffer_index»)) (fewer k (h .1))
-        where
-          pick : (t : Bool) → Each (λ (x : AttributeDesc). x .location ≡ a .location → ⊥) (sentOf m k) → Each (λ (x : AttributeDesc). x .location ≡ a .location → ⊥) (cond t (x ∷ sentOf m k) (sentOf m k))
-          pick true r = (h .0, r)
-          pick false r = r
 
       Rest : G → Type 0
       Rest n = Each (λ (x : AttributeDesc). read (folded act (sentOf m l) n) (x .location) ≡ cond (testBit m (x .«buffer_index»)) (value x) (read n (x .location))) l
@@ -47,6 +46,6 @@ module _ {G W : Type 0} (act : AttributeDesc → G → G) (read : G → ℕ → 
             (λ (x : AttributeDesc). read (folded act (sentOf m l) (act a g)) (x .location) ≡ cond (testBit m (x .«buffer_index»)) (value x) (read (act a g) (x .location)))
             (λ (x : AttributeDesc). read (folded act (sentOf m l) (act a g)) (x .location) ≡ cond (testBit m (x .«buffer_index»)) (value x) (read g (x .location)))
             l (λ x ne q. q ∙ ap (cond (testBit m (x .«buffer_index»)) (value x)) (other a g (x .location) ne)) far (ih (act a g)),
-        passed (sentOf m l) (act a g) (a .location) (fewer l far) ∙ here a g,
+        spared act read other m l (a .location) far (act a g) ∙ here a g,
       )
-      go false ih = (ih g, passed (sentOf m l) g (a .location) (fewer l far))
+      go false ih = (ih g, spared act read other m l (a .location) far g)

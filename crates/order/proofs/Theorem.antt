@@ -8,4 +8,4 @@ use Rattle.order.proofs.Induction.{all-agree, found-is, as-many}
 pub order : Order
 order caps rooms s calls e P =
     let A = all-agree caps rooms s calls e P in
-    (as-many (shots caps rooms s calls) (entries caps rooms s calls) A, found-is (shots caps rooms s calls) (entries caps rooms s calls) A)
+    (as-many caps (shots caps rooms s calls) (entries caps rooms s calls) A, found-is caps (shots caps rooms s calls) (entries caps rooms s calls) A)

@@ -38,12 +38,13 @@ use Rattle.machine.specs.View.{before}
 use Rattle.machine.specs.Machine.{Vertices, Machine, withVertices, withBindings, withFixed as withGlFixed, withFaces, putAttribute, putProgram, play}
 use Rattle.book.specs.Book.{Book, withBuffer, withPipeline, referenceOf}
 use Rattle.machine.proofs.Sweep.{play-append, folded, played, unfolded}
-use Rattle.order.proofs.Invariant.{First, Sane, attributeBuffer, sentAttribute, Lazy, Slots, Fetched, Piped, Tied}
+use Rattle.order.proofs.Invariant.{First, Sane, attributeBuffer, sentAttribute, Lazy, Slots, Spare, Fetched, Piped, Tied}
 use Rattle.order.proofs.PipedVertex.{slots-piped, fetched-piped}
 use Rattle.order.proofs.UnitLaws.{samplerAct, number-after, units-piped}
 use Rattle.order.proofs.PipedFixed.{fixedAfter, facesAfter, play-fixed, set-piped, lazy-piped, stencil-piped}
 use Rattle.order.proofs.Group.{play-samplers, samplers-res}
 use Rattle.order.proofs.Keeps.{late}
+use Rattle.order.proofs.Calls.{unsetAct, unset-all}
 
 abbrev counted : Phase → ℕ → ℕ → ℕ → Progress
 counted ph n k l = record { phase = ph; commands = n; bytes = k; queries = l }
@@ -155,9 +156,6 @@ module _ (v : VertexState) (i raw offset : ℕ) (low : i < 16) (long : length (v
       )
 
 -- ---- the commands of a pipeline's vertex part, on the machine
-unsetAct : AttributeDesc → Vertices → Vertices
-unsetAct a x = putAttribute (a .location) none x
-
 setAct : RenderPipeline → AttributeDesc → Vertices → Vertices
 setAct p a x = putAttribute (a .location) (some (sentAttribute p a)) x
 
@@ -165,7 +163,7 @@ vertexPlayed : PrivateCapabilities → RenderPipeline → VertexState → Vertic
 vertexPlayed caps p v g = cond (caps .«vertex_buffer_layout») (folded (setAct p) (attributesIn p) g) (folded unsetAct (attributesOf v) g)
 
 play-vertex : (caps : PrivateCapabilities) (p : RenderPipeline) (v : VertexState) (m : Machine) → play m (vertexCommands caps p v) ≡ withVertices (vertexPlayed caps p v (m .gl .vertices)) m
-unfolding vertexPlayed setAct unsetAct
+unfolding vertexPlayed setAct
 play-vertex caps p v m = go (caps .«vertex_buffer_layout»)
   where
     go : (t : Bool) → play m (cond t (map (setAttribute p) (attributesIn p)) (map unsetAttribute (attributesOf v))) ≡ withVertices (cond t (folded (setAct p) (attributesIn p) (m .gl .vertices)) (folded unsetAct (attributesOf v) (m .gl .vertices))) m
@@ -174,7 +172,7 @@ play-vertex caps p v m = go (caps .«vertex_buffer_layout»)
 
 -- the slots' buffers are not touched
 vertex-buffers : (caps : PrivateCapabilities) (p : RenderPipeline) (v : VertexState) (g : Vertices) → vertexPlayed caps p v g .buffer ≡ g .buffer
-unfolding vertexPlayed setAct unsetAct
+unfolding vertexPlayed setAct
 vertex-buffers caps p v g = go (caps .«vertex_buffer_layout»)
   where
     go : (t : Bool) → cond t (folded (setAct p) (attributesIn p) g) (folded unsetAct (attributesOf v) g) .buffer ≡ g .buffer
@@ -184,6 +182,13 @@ vertex-buffers caps p v g = go (caps .«vertex_buffer_layout»)
 vertex-sent : (caps : PrivateCapabilities) (p : RenderPipeline) (v : VertexState) (g : Vertices) → caps .«vertex_buffer_layout» ≡ true → vertexPlayed caps p v g ≡ folded (λ (a : AttributeDesc) (x : Vertices). putAttribute (a .location) (some (sentAttribute p a)) x) (attributesIn p) g
 unfolding vertexPlayed setAct
 vertex-sent caps p v g e = ap (λ (t : Bool). cond t (folded (setAct p) (attributesIn p) g) (folded unsetAct (attributesOf v) g)) e
+
+-- without layouts the old attributes are unset, and no other was set
+spare-piped : (caps : PrivateCapabilities) (p : RenderPipeline) (v : VertexState) (g : Vertices) → Spare caps v g → Spare caps (pipelineVertex caps p v) (vertexPlayed caps p v g)
+unfolding vertexPlayed
+spare-piped caps p v g h flat i e =
+    ap (λ (t : Bool). cond t (folded (setAct p) (attributesIn p) g) (folded unsetAct (attributesOf v) g) .attribute i) flat
+    ∙ unset-all (attributesOf v) g i (h flat i)
 
 -- all runs of a render pipeline call
 piped-machine : PrivateCapabilities → RenderPipeline → State → Machine → Machine
@@ -222,6 +227,7 @@ module _ (caps : PrivateCapabilities) (s : State) (m : Machine) (b : Book) (T : 
         units = T .units;
         lazy = T .lazy;
         steady = record { long = length-set (s .vertex .buffers) i (record { stride = slotAt (s .vertex) i .stride; raw = raw; offset = offset }) ∙ T .steady .long };
+        spare = T .spare;
         early = λ e. absurd (not-before e);
         slots = λ f. slots-bound (s .vertex) i raw offset low (T .steady .long) caps (m .gl .vertices) (b .buffer) (T .slots f);
         piped = λ f p e.
@@ -262,6 +268,7 @@ module _ (caps : PrivateCapabilities) (s : State) (m : Machine) (b : Book) (T : 
         units = units-piped (p .inner) (s .bind) (m .gl .bindings) (b .bound .samplers) (T .units);
         lazy = lazy-piped p (s .fixed) (putProgram (p .inner .program) (m .gl .fixed)) L;
         steady = record { long = long-table 16 (λ i. describedSlot (pipeDesc p i) (slotAt (s .vertex) i)) };
+        spare = spare-piped caps p (s .vertex) (m .gl .vertices) (T .spare);
         early = λ e. absurd (not-before e);
         slots = λ f. slots-piped caps p (s .vertex) (m .gl .vertices) (vertexPlayed caps p (s .vertex) (m .gl .vertices)) (b .buffer) (T .slots f) (λ layout. vertex-buffers caps p (s .vertex) (m .gl .vertices));
         piped = λ f q e. subst (λ (x : RenderPipeline). Piped caps s′ (piped-machine caps p s m .gl) (referenceOf (p .stencil)) x) (some-same p q e) (new f);
