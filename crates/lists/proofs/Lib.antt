@@ -1,0 +1,3 @@
+pub mod Data
+pub mod Counting
+pub mod Kept
