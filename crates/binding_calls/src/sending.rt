@@ -12,7 +12,6 @@ ghost use Rattle.binding_calls.specs.ImmediatePlans.{WorkedOf, SendAllow
 use bindings::immediate_command::Placed;
 use bindings::immediate_command::immediate_command_at;
 use bindings::immediate_command::place_descriptors;
-use bindings::immediates::byte_at;
 use bindings::immediates::immediates_after;
 use bindings::immediates::out_of_range;
 use bindings::immediates::picked;
@@ -25,6 +24,7 @@ use calls::parts::with_immediates;
 use calls::parts::with_progress;
 use calls::phase::in_pass;
 use calls::phase::range_asks;
+use numbers::bytes::byte_at;
 use pass::marks::over_run;
 use records::check::broken_limits;
 use records::check::within;

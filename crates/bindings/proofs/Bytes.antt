@@ -11,7 +11,8 @@ use lib.Seq.{getD-take, getD-drop, drop-cons, drop-at, take-suc, take-suc-set}
 use Rattle.records.specs.Check.{some?, badDescriptor}
 use Rattle.records.specs.Start.{startImmediate}
 use Rattle.records.specs.declared.command.ImmediateDesc.{ImmediateDesc}
-use Rattle.bindings.specs.Immediates.{littleEndian, bytesOf, wordsOf, immediateBytes}
+use Rattle.bindings.specs.Immediates.{wordsOf, immediateBytes}
+use Rattle.numbers.specs.Bytes.{littleEndian, bytesOf}
 use Rattle.bindings.specs.Placed.{placesOf, sizeOf, places-more, size-more, Good, good-cons, good-at, bytes-long, words-all}
 
 -- ---- the counted descriptors

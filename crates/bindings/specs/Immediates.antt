@@ -4,6 +4,7 @@ use mathlib.Core.Bool.{Bool, true, false, cond, not, _&&_, _||_}
 use mathlib.Core.List.{List, [], _∷_, _++_}
 use lib.Dec.{ltb, leb, eqb}
 use lib.ListN.{take, drop, length}
+use Rattle.numbers.specs.Bytes.{bytesOf}
 use Rattle.records.specs.declared.command.Command.{Command}
 use Rattle.records.specs.declared.command.Command.the-variants.{SetImmediates}
 use Rattle.records.specs.declared.command.ImmediateDesc.{ImmediateDesc}
@@ -19,14 +20,6 @@ descriptorsOf i = take (i .count) (i .descs)
 -- the state after the call: the words are written, and every descriptor has been sent since the last pipeline call
 abbrev pub immediatesState : ImmediateState → ℕ → List ℕ → ImmediateState
 immediatesState i offset ws = record { descs = i .descs; count = i .count; words = overwritten (i .words) (offset / 4) ws; sent = true }
-
--- "Words go to the marker bytes little-endian"
-abbrev pub littleEndian : ℕ → List ℕ
-littleEndian w = (w % 256) ∷ (w / 2 ^ 8 % 256) ∷ (w / 2 ^ 16 % 256) ∷ (w / 2 ^ 24 % 256) ∷ []
-
-unfoldable pub bytesOf : List ℕ → List ℕ
-bytesOf [] = []
-bytesOf (w ∷ ws) = littleEndian w ++ bytesOf ws
 
 -- the words of a descriptor
 abbrev pub wordsOf : List ℕ → ImmediateDesc → List ℕ

@@ -15,7 +15,8 @@ use Rattle.records.specs.declared.command.Command.{Command}
 use Rattle.records.specs.declared.command.Command.the-variants.{SetImmediates}
 use Rattle.records.specs.declared.command.ImmediateDesc.{ImmediateDesc}
 use Rattle.bindings.specs.Or.{or-false, neither}
-use Rattle.bindings.specs.Immediates.{bytesOf, wordsOf, immediateCommands, immediateBytes, immediatesOver}
+use Rattle.bindings.specs.Immediates.{wordsOf, immediateCommands, immediateBytes, immediatesOver}
+use Rattle.numbers.specs.Bytes.{bytesOf}
 
 -- the place of each descriptor's bytes, where the first are at `at`
 unfoldable pub placesOf : List ImmediateDesc → ℕ → List ℕ

@@ -5,7 +5,7 @@ ghost use mathlib.Core.Bool.{false, cond};
 ghost use Prim.Native.Nat.{_≤_};
 ghost use lib.ListN.{getD, take};
 ghost use denote.Ref.{now};
-ghost use Rattle.bindings.specs.Immediates.{descriptorsOf, littleEndian, sharesWord, sends as sendsOf, filter as filterOf, immediatesOutOfRange, immediatesState};
+ghost use Rattle.bindings.specs.Immediates.{descriptorsOf, sharesWord, sends as sendsOf, filter as filterOf, immediatesOutOfRange, immediatesState};
 use records::check::within;
 use records::command::ImmediateDesc;
 use records::limits::MAX_IMMEDIATES_COMMANDS;
@@ -81,23 +81,4 @@ pub fn picked(i: ImmediateState, start: u32, end: u32) -> ImmediateState
     r.descs = kept;
     r.count = k;
     r
-}
-
-// Byte number j of a word, the lowest first; 0 past the fourth.
-pub fn byte_at(word: u32, j: u32) -> u8
-    ensures { λ r. ⌜ r ≡ getD (littleEndian word) j 0 ⌝ }
-{
-    if j == 0 {
-        return (word % 256) as u8;
-    }
-    if j == 1 {
-        return (word / 256 % 256) as u8;
-    }
-    if j == 2 {
-        return (word / 65536 % 256) as u8;
-    }
-    if j == 3 {
-        return (word / 16777216 % 256) as u8;
-    }
-    0
 }

@@ -38,7 +38,8 @@ use Rattle.records.specs.declared.pipeline.PrivateCapabilities.{PrivateCapabili
 use Rattle.records.specs.declared.pipeline.RenderPipeline.{RenderPipeline}
 use Rattle.slots.specs.Prepare.{bufferCommands, attributeCommands, sentOf}
 use Rattle.bindings.specs.Group.{zipped, groupCommands, groupState, texturesNamed, samplersNamed, offsetsUsed, groupOver}
-use Rattle.bindings.specs.Immediates.{bytesOf, filter, immediateCommands, immediateBytes, immediatesOver}
+use Rattle.bindings.specs.Immediates.{filter, immediateCommands, immediateBytes, immediatesOver}
+use Rattle.numbers.specs.Bytes.{bytesOf}
 use Rattle.bindings.specs.Units.{samplerCommands}
 use Rattle.pipeline.specs.Inner.{changedUnits}
 use Rattle.pipeline.specs.Fixed.{sameTargets, allSame, eachTarget}

@@ -26,7 +26,8 @@ use Rattle.records.specs.declared.pass.OptionView.the-variants as view
 use Rattle.records.specs.declared.state.IndexFormat.the-variants.{Uint16}
 use Rattle.slots.specs.Prepare.{bufferCommands, attributeCommands, sentOf}
 use Rattle.bindings.specs.Group.{noGroup, zipped, groupCommands, groupState, texturesNamed, samplersNamed, offsetsUsed, groupOver}
-use Rattle.bindings.specs.Immediates.{bytesOf, filter, immediateCommands, immediateBytes, immediatesOver}
+use Rattle.bindings.specs.Immediates.{filter, immediateCommands, immediateBytes, immediatesOver}
+use Rattle.numbers.specs.Bytes.{bytesOf}
 use Rattle.bindings.specs.Units.{samplerCommands}
 use Rattle.pipeline.specs.Inner.{changedUnits}
 use Rattle.pipeline.specs.Fixed.{sameTargets, allSame, eachTarget}

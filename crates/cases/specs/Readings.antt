@@ -23,7 +23,8 @@ use Rattle.records.specs.declared.state.Phase.the-variants.{Render}
 use Rattle.records.specs.declared.state.State.{State}
 use Rattle.slots.specs.Prepare.{bufferCommands, attributeCommands, sentOf}
 use Rattle.bindings.specs.Group.{noGroup, zipped, groupCommands, groupState, texturesNamed, samplersNamed, offsetsUsed, groupOver}
-use Rattle.bindings.specs.Immediates.{bytesOf, filter, immediateCommands, immediateBytes, immediatesOver}
+use Rattle.bindings.specs.Immediates.{filter, immediateCommands, immediateBytes, immediatesOver}
+use Rattle.numbers.specs.Bytes.{bytesOf}
 use Rattle.bindings.specs.Units.{samplerCommands}
 use Rattle.pass.specs.Marks.{Label}
 use Rattle.pass.specs.Render.{beginRenderCommands, attachColors, resolvesFrom, invalidations, clearColors}

@@ -35,7 +35,7 @@ pub(crate) fn invalidations(caps: PrivateCapabilities, d: RenderPassDescriptor) 
 }
 
 // Whether some colour place is an external framebuffer.
-pub fn to_external(caps: PrivateCapabilities, d: RenderPassDescriptor) -> bool
+pub(crate) fn to_external(caps: PrivateCapabilities, d: RenderPassDescriptor) -> bool
     ensures { λ r. ⌜ r ≡ toExternal (placesOf d) ⌝ }
 {
     let masks = survey(caps, d);

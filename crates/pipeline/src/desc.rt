@@ -56,7 +56,7 @@ pub(crate) fn desc_in(
 }
 
 // The pipeline's description of slot i.
-pub fn pipe_desc(p: RenderPipeline, i: u32) -> OptionVertexBufferDesc
+pub(crate) fn pipe_desc(p: RenderPipeline, i: u32) -> OptionVertexBufferDesc
     ensures { λ r. ⌜ described r ≡ pipeDesc p i ⌝ }
 {
     let layouts = p.vertex_buffers;

@@ -46,7 +46,7 @@ fn aspects(p: RenderPipeline) -> u32
     depth_aspect(depth) + stencil_aspect(stencil)
 }
 
-pub fn fixed_count(p: RenderPipeline, f: FixedState) -> u32
+pub(crate) fn fixed_count(p: RenderPipeline, f: FixedState) -> u32
     ensures { λ r. ⌜ (r ≡ length (fixedCommands p f)) × (r ≤ 18) ⌝ }
 {
     let plan = fixed_plan(p, f);

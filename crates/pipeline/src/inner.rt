@@ -29,7 +29,7 @@ use records::state::ImmediateState;
 use records::state::TextureSlotDesc;
 
 // The sampler number that the pipeline has for unit u.
-pub fn map_at(p: PipelineInner, u: u32) -> OptionU32
+pub(crate) fn map_at(p: PipelineInner, u: u32) -> OptionU32
     ensures { λ r. ⌜ r ≡ mapAt p u ⌝ }
 {
     if u < 16 {

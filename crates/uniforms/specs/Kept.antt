@@ -11,7 +11,8 @@ use Rattle.records.specs.Start.{startImmediates}
 use Rattle.records.specs.declared.command.ImmediateDesc.{ImmediateDesc}
 use Rattle.records.specs.declared.pipeline.PipelineInner.{PipelineInner}
 use Rattle.records.specs.declared.state.ImmediateState.{ImmediateState}
-use Rattle.bindings.specs.Immediates.{overwritten, descriptorsOf, bytesOf, sharesWord, sends, filter}
+use Rattle.bindings.specs.Immediates.{overwritten, descriptorsOf, sharesWord, sends, filter}
+use Rattle.numbers.specs.Bytes.{bytesOf}
 use Rattle.bindings.specs.Placed.{Good, good-cons}
 use Rattle.pipeline.specs.Inner.{innerDescriptors, innerImmediates}
 use Rattle.machine.specs.Each.{Each}

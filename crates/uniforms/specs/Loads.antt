@@ -9,7 +9,8 @@ use native.Mathlib.Decide.{ℕ-discrete}
 use lib.Dec.{eqb}
 use Rattle.tables.specs.Tabulate.{upd, upd-same, upd-other}
 use Rattle.records.specs.declared.command.ImmediateDesc.{ImmediateDesc}
-use Rattle.bindings.specs.Immediates.{bytesOf, wordsOf, filter}
+use Rattle.bindings.specs.Immediates.{wordsOf, filter}
+use Rattle.numbers.specs.Bytes.{bytesOf}
 use Rattle.machine.specs.Each.{Each}
 use Rattle.machine.proofs.Lists.{each-with}
 use Rattle.uniforms.specs.Uniforms.{Value, Uniforms, load}

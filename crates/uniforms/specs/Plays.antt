@@ -11,7 +11,8 @@ use Rattle.records.specs.Check.{some?, badDescriptor}
 use Rattle.records.specs.declared.command.Command.{Command}
 use Rattle.records.specs.declared.command.Command.the-variants.{SetProgram}
 use Rattle.records.specs.declared.command.ImmediateDesc.{ImmediateDesc}
-use Rattle.bindings.specs.Immediates.{bytesOf, wordsOf, immediateCommands, immediateBytes}
+use Rattle.bindings.specs.Immediates.{wordsOf, immediateCommands, immediateBytes}
+use Rattle.numbers.specs.Bytes.{bytesOf}
 use Rattle.bindings.specs.Placed.{Good, good-cons, bytes-long, words-all}
 use Rattle.machine.specs.Each.{Each}
 use Rattle.uniforms.specs.Uniforms.{Machine, Effect, uses, loads, neither, load, effect, exec, play}

@@ -20,7 +20,8 @@ use Rattle.records.specs.declared.pipeline.PrivateCapabilities.{PrivateCapabili
 use Rattle.records.specs.declared.state.ImmediateState.{ImmediateState}
 use Rattle.records.specs.declared.state.Progress.{Progress}
 use Rattle.records.specs.declared.state.State.{State}
-use Rattle.bindings.specs.Immediates.{overwritten, descriptorsOf, immediatesState, bytesOf, wordsOf, sends, filter, sentDescriptors, immediatesOutOfRange}
+use Rattle.bindings.specs.Immediates.{overwritten, descriptorsOf, immediatesState, wordsOf, sends, filter, sentDescriptors, immediatesOutOfRange}
+use Rattle.numbers.specs.Bytes.{bytesOf}
 use Rattle.bindings.specs.Overlap.{always-overlaps}
 use Rattle.bindings.specs.Shared.{filter-good}
 use Rattle.pipeline.specs.Inner.{innerImmediates}

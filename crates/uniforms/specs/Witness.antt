@@ -15,7 +15,8 @@ use Rattle.records.specs.Start.{startState}
 use Rattle.records.specs.declared.command.Command.{Command}
 use Rattle.records.specs.declared.command.ImmediateDesc.{ImmediateDesc}
 use Rattle.records.specs.declared.state.State.{State}
-use Rattle.bindings.specs.Immediates.{bytesOf, filter, immediateCommands, immediateBytes, immediatesOver}
+use Rattle.bindings.specs.Immediates.{filter, immediateCommands, immediateBytes, immediatesOver}
+use Rattle.numbers.specs.Bytes.{bytesOf}
 use Rattle.bindings.specs.Units.{samplerCommands}
 use Rattle.pipeline.specs.Inner.{changedUnits}
 use Rattle.pipeline.specs.Fixed.{sameTargets}

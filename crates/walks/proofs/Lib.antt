@@ -1,4 +1,5 @@
 pub mod Args
+pub mod Arrays
 pub mod Calls
 pub mod Filled
 pub mod Filling
@@ -7,6 +8,7 @@ pub mod Held
 pub mod Lent
 pub mod Listing
 pub mod Passing
+pub mod Picking
 pub mod Reading
 pub mod ReadingFrom
 pub mod Recording

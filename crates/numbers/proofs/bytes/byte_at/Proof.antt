@@ -1,12 +1,12 @@
--- `bindings::immediates::byte_at` meets its contract, byte by byte. Assumes nothing.
+-- `numbers::bytes::byte_at` meets its contract, byte by byte. Assumes nothing.
 use Prim.Native.Nat.{_≤_}
 use mathlib.Core.Path.{sym}
 use native.Mathlib.Omega.{arith}
 use lib.ListN.{List·getD-eq-default}
-use Rattle.bindings.specs.Immediates.{littleEndian}
+use Rattle.numbers.specs.Bytes.{littleEndian}
 use borrow.Author.Needs.{needs}
-use Rattle.bindings.proofs.immediates.byte_at.Statement.{statement}
-use Rattle.bindings.proofs.immediates.byte_at.Tie as tie
+use Rattle.numbers.proofs.bytes.byte_at.Statement.{statement}
+use Rattle.numbers.proofs.bytes.byte_at.Tie as tie
 
 cast-result : tie.Need-cast-result
 cast-result c = search needs
