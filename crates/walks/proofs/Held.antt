@@ -1,10 +1,11 @@
 -- The locals of plain data of a function: the first m of them have a value, the others are room. What a walk does with them, whatever they are.
 --     Pre, hold        the values of the first m, and their locals, in one item of the context
 --     argVals, opds-held       some of them, by their numbers, passed on to a callee
+--     numbers, passed          all parameters, passed on.        last         the one let, where there is one
 --     out, back        the first that has no value is taken out, and put back with one
 --     pass-hold, free-hold     the parameters are stored, and all are freed
 -- Says nothing of the crate. Assumes `Given`.
-use mathlib.Core.Path.{_≡_, refl, sym, ap, subst}
+use mathlib.Core.Path.{_≡_, refl, sym, _∙_, ap, subst}
 use Prim.Native.Nat.{ℕ, zero, suc}
 use mathlib.Core.List.{List, [], _∷_, _++_}
 use lib.ListN.{getD}
@@ -143,6 +144,57 @@ start (D ∷ As) Ls d = (d .0, start As Ls (d .1))
 pub sound-start : (As Ls : List Datum) (d : Dens As) → Facts As d → Sound (As ++ Ls) (count As) (start As Ls d)
 sound-start [] Ls d f = sound-none Ls
 sound-start (D ∷ As) Ls d f = (f .0, sound-start As Ls (d .1) (f .1))
+
+-- ---- all parameters, by their numbers
+abbrev raised : List ℕ → List ℕ
+raised [] = []
+raised (i ∷ is) = suc i ∷ raised is
+
+abbrev pub numbers : List Datum → List ℕ
+numbers [] = []
+numbers (A ∷ As) = 0 ∷ raised (numbers As)
+
+abbrev knowns-raised : (A : Datum) (Vs : List Datum) (m : ℕ) (is : List ℕ) → Knowns Vs m is → Knowns (A ∷ Vs) (suc m) (raised is)
+knowns-raised A Vs m [] ks = tt
+knowns-raised A Vs m (i ∷ is) ks = (ks .0, knowns-raised A Vs m is (ks .1))
+
+abbrev pub knowns : (As Ls : List Datum) → Knowns (As ++ Ls) (count As) (numbers As)
+knowns [] Ls = tt
+knowns (A ∷ As) Ls = (tt, knowns-raised A (As ++ Ls) (count As) (numbers As) (knowns As Ls))
+
+abbrev lowered : (A : Datum) (Vs : List Datum) (is : List ℕ) → Dens (argDs (A ∷ Vs) (raised is)) → Dens (argDs Vs is)
+lowered A Vs [] d = tt
+lowered A Vs (i ∷ is) d = (d .0, lowered A Vs is (d .1))
+
+abbrev pub passed : (As Ls : List Datum) → Dens (argDs (As ++ Ls) (numbers As)) → Dens As
+passed [] Ls d = tt
+passed (A ∷ As) Ls d = (d .0, passed As Ls (lowered A (As ++ Ls) (numbers As) (d .1)))
+
+lowered-is : (A : Datum) (Vs : List Datum) (m : ℕ) (a : A .D) (d : Pre Vs m) (is : List ℕ) (ks : Knowns Vs m is) → lowered A Vs is (argVals (A ∷ Vs) (suc m) (a, d) (raised is) (knowns-raised A Vs m is ks)) ≡ argVals Vs m d is ks
+lowered-is A Vs m a d [] ks = refl
+lowered-is A Vs m a d (i ∷ is) ks = λ j. (valueAt Vs m d i (ks .0), lowered-is A Vs m a d is (ks .1) j)
+
+pub passed-is : (As Ls : List Datum) (d : Dens As) → passed As Ls (argVals (As ++ Ls) (count As) (start As Ls d) (numbers As) (knowns As Ls)) ≡ d
+passed-is [] Ls d = refl
+passed-is (A ∷ As) Ls d = λ j. (d .0, (ap (passed As Ls) (lowered-is A (As ++ Ls) (count As) (d .0) (start As Ls (d .1)) (numbers As) (knowns As Ls)) ∙ passed-is As Ls (d .1)) j)
+
+-- ---- the one let, where there is one
+module _ (L : Datum) where
+  abbrev pub vacant : (As : List Datum) → Vacant (As ++ (L ∷ [])) (count As)
+  vacant [] = tt
+  vacant (A ∷ As) = vacant As
+
+  abbrev pub known : (As : List Datum) → Known (As ++ (L ∷ [])) (suc (count As)) (count As)
+  known [] = tt
+  known (A ∷ As) = known As
+
+  abbrev pub last : (As : List Datum) → datumAt (As ++ (L ∷ [])) (count As) .D → L .D
+  last [] x = x
+  last (A ∷ As) x = last As x
+
+  pub last-is : (As : List Datum) (d : Pre (As ++ (L ∷ [])) (count As)) (x : datumAt (As ++ (L ∷ [])) (count As) .D) → valueAt (As ++ (L ∷ [])) (suc (count As)) (with-next (As ++ (L ∷ [])) (count As) d x) (count As) (known As) ≡ x
+  last-is [] d x = refl
+  last-is (A ∷ As) d x = last-is As (d .1) x
 
 module _ {M : Type 1} {𝓤 : URA M} {H : Heap 𝓤} {A : Atoms 𝓤} (W : Given 𝓤 H A) where
   pub out : (Vs : List Datum) (bs : Blocks Vs) (m : ℕ) (d : Pre Vs m) → Vacant Vs m → ent 𝓤 (sem 𝓤 H A (hold Vs bs m d)) (sep 𝓤 (sem 𝓤 H A (froom (datumAt Vs m .ty) (blockAt Vs bs m) 0)) (sem 𝓤 H A (but Vs bs m d)))

@@ -6,7 +6,6 @@ pub mod Filling
 pub mod FillingFrom
 pub mod Held
 pub mod Lent
-pub mod Listing
 pub mod Passing
 pub mod Picking
 pub mod Reading

@@ -1,10 +1,9 @@
--- `draw_calls::draws::draw_indexed_indirect` meets its contract, by walks/proofs/Listing.antt. Assumes nothing.
+-- `draw_calls::draws::draw_indexed_indirect` meets its contract, by walks/proofs/Recording.antt. Assumes nothing.
 use mathlib.Core.List.{[], _∷_}
 use mathlib.Core.Path.{refl}
 use mir.Syntax.{w32, w64}
 use Rattle.walks.proofs.Args.{uint}
-use Rattle.walks.proofs.Recording.{Plans, Answers}
-use Rattle.walks.proofs.Listing.{lists}
+use Rattle.walks.proofs.Recording.{Plans, Answers, lists}
 use Rattle.calls.specs.Call.{draw-indexed-indirect}
 use Rattle.calls.specs.Did.{Lists}
 use Rattle.draw_calls.specs.Drawn.{DrawOf}
@@ -34,7 +33,7 @@ answers = draw-answers code-mir.table refl refl refl
 pub draw-indexed-indirect-spec : {M : Type 1} → statement M
 unfolding code.routine
 draw-indexed-indirect-spec 𝓤 H 𝓜 𝓖 𝓡 =
-    lists plans answers (board code-mir.table refl ∷ []) (uint w32 ∷ uint w64 ∷ uint w32 ∷ []) (λ n d p. DrawOf n (d .1 .0) (drawIndexedIndirect (d .0) (d .1 .0) (d .1 .1 .0) (d .1 .1 .1 .0) (d .1 .1 .1 .1 .0)) p) (λ ys d zs r. Lists (d .0) (d .1 .0) (draw-indexed-indirect (d .1 .1 .0) (d .1 .1 .1 .0) (d .1 .1 .1 .1 .0)) ys r zs)
+    lists plans answers (board code-mir.table refl) (uint w32 ∷ uint w64 ∷ uint w32 ∷ []) (λ n d p. DrawOf n (d .1 .0) (drawIndexedIndirect (d .0) (d .1 .0) (d .1 .1 .0) (d .1 .1 .1 .0) (d .1 .1 .1 .1 .0)) p) (λ ys d zs r. Lists (d .0) (d .1 .0) (draw-indexed-indirect (d .1 .1 .0) (d .1 .1 .1 .0) (d .1 .1 .1 .1 .0)) ys r zs)
     (λ n d p h. draw-fits n (d .1 .0) _ p h) (λ ys d zs r p h e. draw-done (d .0) (d .1 .0) (draw-indexed-indirect (d .1 .1 .0) (d .1 .1 .1 .0) (d .1 .1 .1 .1 .0)) (λ x. refl) refl refl ys zs r p h e) 𝓤 H 𝓜 𝓖 𝓡
     code.env key.name plan.name recorder.name answer.name (code.unfolded 𝓤 H 𝓜 𝓡) plan.routine code.calls-draw-calls·draws·plan-draw-indexed-indirect (plan-thm.met 𝓤 H 𝓜 𝓖 𝓡)
     recorder.routine code.calls-draw-calls·drawn·record-drawn (recorder-thm.met 𝓤 H 𝓜 𝓖 𝓡) answer.routine code.calls-draw-calls·drawn·draw-answer (answer-thm.met 𝓤 H 𝓜 𝓖 𝓡)

@@ -1,8 +1,7 @@
--- `pass_calls::ends::end_compute_pass` meets its contract, by walks/proofs/Listing.antt. Assumes nothing.
-use mathlib.Core.List.{[], _∷_}
+-- `pass_calls::ends::end_compute_pass` meets its contract, by walks/proofs/Recording.antt. Assumes nothing.
+use mathlib.Core.List.{[]}
 use mathlib.Core.Path.{refl}
-use Rattle.walks.proofs.Recording.{Plans, Answers}
-use Rattle.walks.proofs.Listing.{lists}
+use Rattle.walks.proofs.Recording.{Plans, Answers, lists}
 use Rattle.calls.specs.Call.{end-compute-pass}
 use Rattle.calls.specs.Did.{Lists}
 use Rattle.calls.specs.Step.{endCompute}
@@ -32,7 +31,7 @@ answers = end-answers code-mir.table refl refl refl
 pub end-compute-pass-spec : {M : Type 1} → statement M
 unfolding code.routine
 end-compute-pass-spec 𝓤 H 𝓜 𝓖 𝓡 =
-    lists plans answers (board code-mir.table refl ∷ []) [] (λ n d p. EndOf n (d .1 .0) (endCompute (d .1 .0)) p) (λ ys d zs r. Lists (d .0) (d .1 .0) end-compute-pass ys r zs)
+    lists plans answers (board code-mir.table refl) [] (λ n d p. EndOf n (d .1 .0) (endCompute (d .1 .0)) p) (λ ys d zs r. Lists (d .0) (d .1 .0) end-compute-pass ys r zs)
     (λ n d p h. end-fits n (d .1 .0) _ p h) (λ ys d zs r p h e. end-done (d .0) (d .1 .0) end-compute-pass (λ x. refl) refl refl ys zs r p h e) 𝓤 H 𝓜 𝓖 𝓡
     code.env key.name plan.name recorder.name answer.name (code.unfolded 𝓤 H 𝓜 𝓡) plan.routine code.calls-pass-calls·ends·plan-end-compute-pass (plan-thm.met 𝓤 H 𝓜 𝓖 𝓡)
     recorder.routine code.calls-pass-calls·ended·record-ended (recorder-thm.met 𝓤 H 𝓜 𝓖 𝓡) answer.routine code.calls-pass-calls·ended·end-answer (answer-thm.met 𝓤 H 𝓜 𝓖 𝓡)

@@ -1,10 +1,9 @@
--- `single_calls::dispatches::dispatch_workgroups` meets its contract, by walks/proofs/Listing.antt. Assumes nothing.
+-- `single_calls::dispatches::dispatch_workgroups` meets its contract, by walks/proofs/Recording.antt. Assumes nothing.
 use mathlib.Core.List.{[], _∷_}
 use mathlib.Core.Path.{refl}
 use mir.Syntax.{w32}
 use Rattle.walks.proofs.Args.{uint}
-use Rattle.walks.proofs.Recording.{Plans, Answers}
-use Rattle.walks.proofs.Listing.{lists}
+use Rattle.walks.proofs.Recording.{Plans, Answers, lists}
 use Rattle.calls.specs.Call.{dispatch-workgroups}
 use Rattle.calls.specs.Did.{Lists}
 use Rattle.single_calls.specs.One.{OneOf}
@@ -34,7 +33,7 @@ answers = one-answers code-mir.table refl refl refl
 pub dispatch-workgroups-spec : {M : Type 1} → statement M
 unfolding code.routine
 dispatch-workgroups-spec 𝓤 H 𝓜 𝓖 𝓡 =
-    lists plans answers (board code-mir.table refl ∷ []) (uint w32 ∷ uint w32 ∷ uint w32 ∷ []) (λ n d p. OneOf n (d .1 .0) (dispatchWorkgroups (d .1 .0) (d .1 .1 .0) (d .1 .1 .1 .0) (d .1 .1 .1 .1 .0)) p) (λ ys d zs r. Lists (d .0) (d .1 .0) (dispatch-workgroups (d .1 .1 .0) (d .1 .1 .1 .0) (d .1 .1 .1 .1 .0)) ys r zs)
+    lists plans answers (board code-mir.table refl) (uint w32 ∷ uint w32 ∷ uint w32 ∷ []) (λ n d p. OneOf n (d .1 .0) (dispatchWorkgroups (d .1 .0) (d .1 .1 .0) (d .1 .1 .1 .0) (d .1 .1 .1 .1 .0)) p) (λ ys d zs r. Lists (d .0) (d .1 .0) (dispatch-workgroups (d .1 .1 .0) (d .1 .1 .1 .0) (d .1 .1 .1 .1 .0)) ys r zs)
     (λ n d p h. one-fits n (d .1 .0) _ _ _ p (few-dispatched (d .1 .1 .0) (d .1 .1 .1 .0) (d .1 .1 .1 .1 .0)) h) (λ ys d zs r p h e. one-done (d .0) (d .1 .0) (dispatch-workgroups (d .1 .1 .0) (d .1 .1 .1 .0) (d .1 .1 .1 .1 .0)) (λ x. refl) refl refl ys zs r p h e) 𝓤 H 𝓜 𝓖 𝓡
     code.env key.name plan.name recorder.name answer.name (code.unfolded 𝓤 H 𝓜 𝓡) plan.routine code.calls-single-calls·dispatches·plan-dispatch-workgroups (plan-thm.met 𝓤 H 𝓜 𝓖 𝓡)
     recorder.routine code.calls-single-calls·one·record-one (recorder-thm.met 𝓤 H 𝓜 𝓖 𝓡) answer.routine code.calls-single-calls·one·one-answer (answer-thm.met 𝓤 H 𝓜 𝓖 𝓡)

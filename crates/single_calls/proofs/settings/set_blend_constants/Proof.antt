@@ -1,10 +1,9 @@
--- `single_calls::settings::set_blend_constants` meets its contract, by walks/proofs/Listing.antt. Assumes nothing.
+-- `single_calls::settings::set_blend_constants` meets its contract, by walks/proofs/Recording.antt. Assumes nothing.
 use mathlib.Core.List.{[], _∷_}
 use mathlib.Core.Path.{refl}
 use native.Mathlib.Omega.{arith}
 use Rattle.walks.proofs.Args.{of-struct}
-use Rattle.walks.proofs.Recording.{Plans, Answers}
-use Rattle.walks.proofs.Listing.{lists}
+use Rattle.walks.proofs.Recording.{Plans, Answers, lists}
 use Rattle.records.proofs.command.ColorF32 as Color
 use Rattle.records.proofs.command.ColorF32.Laws as Color′
 use Rattle.calls.specs.Call.{set-blend-constants}
@@ -36,7 +35,7 @@ answers = one-answers written.table refl refl refl
 pub set-blend-constants-spec : {M : Type 1} → statement M
 unfolding code.routine
 set-blend-constants-spec 𝓤 H 𝓜 𝓖 𝓡 =
-    lists plans answers (board written.table refl ∷ []) (of-struct Color.the-type Color′.the-laws Color′.the-plain (text written.table Color.the-type) refl ∷ []) (λ n d p. OneOf n (d .1 .0) (setBlendConstants (d .1 .0) (d .1 .1 .0)) p) (λ ys d zs r. Lists (d .0) (d .1 .0) (set-blend-constants (d .1 .1 .0)) ys r zs)
+    lists plans answers (board written.table refl) (of-struct Color.the-type Color′.the-laws Color′.the-plain (text written.table Color.the-type) refl ∷ []) (λ n d p. OneOf n (d .1 .0) (setBlendConstants (d .1 .0) (d .1 .1 .0)) p) (λ ys d zs r. Lists (d .0) (d .1 .0) (set-blend-constants (d .1 .1 .0)) ys r zs)
     (λ n d p h. one-fits n (d .1 .0) _ _ _ p (omega arith) h) (λ ys d zs r p h e. one-done (d .0) (d .1 .0) (set-blend-constants (d .1 .1 .0)) (λ x. refl) refl refl ys zs r p h e) 𝓤 H 𝓜 𝓖 𝓡
     code.env key.name plan.name recorder.name answer.name (code.unfolded 𝓤 H 𝓜 𝓡) plan.routine code.calls-single-calls·settings·plan-set-blend-constants (plan-thm.met 𝓤 H 𝓜 𝓖 𝓡)
     recorder.routine code.calls-single-calls·one·record-one (recorder-thm.met 𝓤 H 𝓜 𝓖 𝓡) answer.routine code.calls-single-calls·one·one-answer (answer-thm.met 𝓤 H 𝓜 𝓖 𝓡)
