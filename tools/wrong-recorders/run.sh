@@ -17,7 +17,7 @@ for name in "$@"; do
     theorem=$(sed -n '1s/^# refused by //p' "$here/$name.patch")
     (cd "$copy" && rt check "$theorem" > "$out" 2>&1) || true
     if grep -q '^rt: calls proved' "$out" && grep -q "^rt: $theorem NOT PROVED" "$out"; then
-        echo "$name: refused by $theorem: $(grep -m1 -o 'specs/[A-Za-z]*.antt:[0-9:]* error: `[^`]*`' "$out" || true)"
+        echo "$name: refused by $theorem: $(grep -m1 -oE '(specs|proofs)/[A-Za-z]*.antt:[0-9:]* error: `[^`]*`' "$out" || true)"
     else
         echo "$name: NOT refused by $theorem"
         grep '^rt: .*NOT PROVED' "$out" || true
