@@ -1,5 +1,7 @@
 -- Document 02, request 2: a GL number read back as the WebGPU name that the map gives it for, and 8 where it gives it for none. Definitions only.
 use Prim.Native.Nat.{ℕ}
+use mathlib.Core.Path.{_≡_}
+use mathlib.Core.Logic.{_⊎_, _↔_}
 use mathlib.Core.Bool.{cond}
 use mathlib.Core.List.{List, [], _∷_}
 use mathlib.Core.Option.{Option, none, some}
@@ -32,6 +34,17 @@ use Rattle.name_reads.specs.declared.OperationRead.the-variants.{Name as
 unfoldable pub nameOf : {A : Type 0} → (A → ℕ) → ℕ → List A → Option A
 nameOf g n [] = none
 nameOf g n (a ∷ l) = cond (eqb (g a) n) (some a) (nameOf g n l)
+
+-- what the request asks of a map and the reader of its numbers; `name` is the answer with a name, `number` an answer's number
+pub record ReadsBack {A R : Type 0} (map : A → ℕ) (read : ℕ → R) (name : A → R) (number : R → ℕ) : Type 0 where
+  -- "Reading what a map gave returns its input"
+  pub returns-input : (a : A) → read (map a) ≡ name a
+  -- "mapping a name that was read returns the number"
+  pub returns-number : (n : ℕ) (a : A) → read n ≡ name a → map a ≡ n
+  -- "8, a number that the map never gives"
+  pub never-given : (n : ℕ) → number (read n) ≡ 8 ↔ ((a : A) → map a ≡ n → ⊥)
+  -- "these calls have no other": an answer is 8, or a name, whose number is 0
+  pub no-other : (n : ℕ) → (number (read n) ≡ 8) ⊎ ((number (read n) ≡ 0) × (a : A) × (read n ≡ name a))
 
 -- the comparison functions
 abbrev pub asCompare : Option CompareFunction → CompareRead

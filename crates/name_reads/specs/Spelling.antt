@@ -25,9 +25,9 @@ abbrev pub ascii : String → List ℕ
 ascii empty = []
 ascii (c ∷ₛ s) = code c ∷ ascii s
 
--- a word in twenty bytes, and its length: the longest has twenty
+-- a word in twenty bytes, blanks after it, and its length; the longest word has twenty
 abbrev pub spelled : List ℕ → Spelling
-spelled w = record { bytes = w ++ replicate (20 - length w) 0; length = length w }
+spelled w = record { bytes = w ++ replicate (20 - length w) 32; length = length w }
 
 -- GPUCompareFunction
 abbrev pub compareWord : CompareFunction → List ℕ

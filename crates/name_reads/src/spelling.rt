@@ -1,7 +1,5 @@
 // WebGPU's words for its names, as bytes. The contracts cite specs/Spelling.antt.
 ghost use mathlib.Core.Path.{_≡_};
-ghost use Prim.Native.Nat.{_≤_};
-ghost use lib.ListN.{length};
 ghost use Rattle.name_reads.specs.Spelling.{spelled, compareWord, topologyWord, frontWord, cullWord, stencilOpWord, factorWord, operationWord};
 use names::wgt::BlendFactor;
 use names::wgt::BlendOperation;
@@ -11,40 +9,48 @@ use names::wgt::FrontFace;
 use names::wgt::PrimitiveTopology;
 use names::wgt::StencilOperation;
 
-// A word: the first `length` of the bytes; the others are 0.
+// A word: the first `length` of the bytes; blanks follow it.
 pub struct Spelling {
     pub bytes: [u8; 20],
     pub length: usize,
-}
-
-fn spell(word: &[u8]) -> Spelling
-    requires { ⌜ length (now word) ≤ 20 ⌝ }
-    ensures { λ r. ⌜ r ≡ spelled (now (word .entry)) ⌝ }
-{
-    let mut bytes = [0u8; 20];
-    let mut i = 0;
-    while i < word.len() {
-        bytes[i] = word[i];
-        i += 1;
-    }
-    Spelling {
-        bytes,
-        length: word.len(),
-    }
 }
 
 pub fn spell_compare_func(name: CompareFunction) -> Spelling
     ensures { λ r. ⌜ r ≡ spelled (compareWord name) ⌝ }
 {
     match name {
-        CompareFunction::Never => spell(b"never"),
-        CompareFunction::Less => spell(b"less"),
-        CompareFunction::Equal => spell(b"equal"),
-        CompareFunction::LessEqual => spell(b"less-equal"),
-        CompareFunction::Greater => spell(b"greater"),
-        CompareFunction::NotEqual => spell(b"not-equal"),
-        CompareFunction::GreaterEqual => spell(b"greater-equal"),
-        CompareFunction::Always => spell(b"always"),
+        CompareFunction::Never => Spelling {
+            bytes: *b"never               ",
+            length: 5,
+        },
+        CompareFunction::Less => Spelling {
+            bytes: *b"less                ",
+            length: 4,
+        },
+        CompareFunction::Equal => Spelling {
+            bytes: *b"equal               ",
+            length: 5,
+        },
+        CompareFunction::LessEqual => Spelling {
+            bytes: *b"less-equal          ",
+            length: 10,
+        },
+        CompareFunction::Greater => Spelling {
+            bytes: *b"greater             ",
+            length: 7,
+        },
+        CompareFunction::NotEqual => Spelling {
+            bytes: *b"not-equal           ",
+            length: 9,
+        },
+        CompareFunction::GreaterEqual => Spelling {
+            bytes: *b"greater-equal       ",
+            length: 13,
+        },
+        CompareFunction::Always => Spelling {
+            bytes: *b"always              ",
+            length: 6,
+        },
     }
 }
 
@@ -52,11 +58,26 @@ pub fn spell_primitive_topology(name: PrimitiveTopology) -> Spelling
     ensures { λ r. ⌜ r ≡ spelled (topologyWord name) ⌝ }
 {
     match name {
-        PrimitiveTopology::PointList => spell(b"point-list"),
-        PrimitiveTopology::LineList => spell(b"line-list"),
-        PrimitiveTopology::LineStrip => spell(b"line-strip"),
-        PrimitiveTopology::TriangleList => spell(b"triangle-list"),
-        PrimitiveTopology::TriangleStrip => spell(b"triangle-strip"),
+        PrimitiveTopology::PointList => Spelling {
+            bytes: *b"point-list          ",
+            length: 10,
+        },
+        PrimitiveTopology::LineList => Spelling {
+            bytes: *b"line-list           ",
+            length: 9,
+        },
+        PrimitiveTopology::LineStrip => Spelling {
+            bytes: *b"line-strip          ",
+            length: 10,
+        },
+        PrimitiveTopology::TriangleList => Spelling {
+            bytes: *b"triangle-list       ",
+            length: 13,
+        },
+        PrimitiveTopology::TriangleStrip => Spelling {
+            bytes: *b"triangle-strip      ",
+            length: 14,
+        },
     }
 }
 
@@ -64,8 +85,14 @@ pub fn spell_front_face(name: FrontFace) -> Spelling
     ensures { λ r. ⌜ r ≡ spelled (frontWord name) ⌝ }
 {
     match name {
-        FrontFace::Ccw => spell(b"ccw"),
-        FrontFace::Cw => spell(b"cw"),
+        FrontFace::Ccw => Spelling {
+            bytes: *b"ccw                 ",
+            length: 3,
+        },
+        FrontFace::Cw => Spelling {
+            bytes: *b"cw                  ",
+            length: 2,
+        },
     }
 }
 
@@ -73,9 +100,18 @@ pub fn spell_cull_mode(name: CullMode) -> Spelling
     ensures { λ r. ⌜ r ≡ spelled (cullWord name) ⌝ }
 {
     match name {
-        CullMode::None => spell(b"none"),
-        CullMode::Front => spell(b"front"),
-        CullMode::Back => spell(b"back"),
+        CullMode::None => Spelling {
+            bytes: *b"none                ",
+            length: 4,
+        },
+        CullMode::Front => Spelling {
+            bytes: *b"front               ",
+            length: 5,
+        },
+        CullMode::Back => Spelling {
+            bytes: *b"back                ",
+            length: 4,
+        },
     }
 }
 
@@ -83,14 +119,38 @@ pub fn spell_stencil_op(name: StencilOperation) -> Spelling
     ensures { λ r. ⌜ r ≡ spelled (stencilOpWord name) ⌝ }
 {
     match name {
-        StencilOperation::Keep => spell(b"keep"),
-        StencilOperation::Zero => spell(b"zero"),
-        StencilOperation::Replace => spell(b"replace"),
-        StencilOperation::Invert => spell(b"invert"),
-        StencilOperation::IncrementClamp => spell(b"increment-clamp"),
-        StencilOperation::DecrementClamp => spell(b"decrement-clamp"),
-        StencilOperation::IncrementWrap => spell(b"increment-wrap"),
-        StencilOperation::DecrementWrap => spell(b"decrement-wrap"),
+        StencilOperation::Keep => Spelling {
+            bytes: *b"keep                ",
+            length: 4,
+        },
+        StencilOperation::Zero => Spelling {
+            bytes: *b"zero                ",
+            length: 4,
+        },
+        StencilOperation::Replace => Spelling {
+            bytes: *b"replace             ",
+            length: 7,
+        },
+        StencilOperation::Invert => Spelling {
+            bytes: *b"invert              ",
+            length: 6,
+        },
+        StencilOperation::IncrementClamp => Spelling {
+            bytes: *b"increment-clamp     ",
+            length: 15,
+        },
+        StencilOperation::DecrementClamp => Spelling {
+            bytes: *b"decrement-clamp     ",
+            length: 15,
+        },
+        StencilOperation::IncrementWrap => Spelling {
+            bytes: *b"increment-wrap      ",
+            length: 14,
+        },
+        StencilOperation::DecrementWrap => Spelling {
+            bytes: *b"decrement-wrap      ",
+            length: 14,
+        },
     }
 }
 
@@ -98,23 +158,74 @@ pub fn spell_blend_factor(name: BlendFactor) -> Spelling
     ensures { λ r. ⌜ r ≡ spelled (factorWord name) ⌝ }
 {
     match name {
-        BlendFactor::Zero => spell(b"zero"),
-        BlendFactor::One => spell(b"one"),
-        BlendFactor::Src => spell(b"src"),
-        BlendFactor::OneMinusSrc => spell(b"one-minus-src"),
-        BlendFactor::SrcAlpha => spell(b"src-alpha"),
-        BlendFactor::OneMinusSrcAlpha => spell(b"one-minus-src-alpha"),
-        BlendFactor::Dst => spell(b"dst"),
-        BlendFactor::OneMinusDst => spell(b"one-minus-dst"),
-        BlendFactor::DstAlpha => spell(b"dst-alpha"),
-        BlendFactor::OneMinusDstAlpha => spell(b"one-minus-dst-alpha"),
-        BlendFactor::SrcAlphaSaturated => spell(b"src-alpha-saturated"),
-        BlendFactor::Constant => spell(b"constant"),
-        BlendFactor::OneMinusConstant => spell(b"one-minus-constant"),
-        BlendFactor::Src1 => spell(b"src1"),
-        BlendFactor::OneMinusSrc1 => spell(b"one-minus-src1"),
-        BlendFactor::Src1Alpha => spell(b"src1-alpha"),
-        BlendFactor::OneMinusSrc1Alpha => spell(b"one-minus-src1-alpha"),
+        BlendFactor::Zero => Spelling {
+            bytes: *b"zero                ",
+            length: 4,
+        },
+        BlendFactor::One => Spelling {
+            bytes: *b"one                 ",
+            length: 3,
+        },
+        BlendFactor::Src => Spelling {
+            bytes: *b"src                 ",
+            length: 3,
+        },
+        BlendFactor::OneMinusSrc => Spelling {
+            bytes: *b"one-minus-src       ",
+            length: 13,
+        },
+        BlendFactor::SrcAlpha => Spelling {
+            bytes: *b"src-alpha           ",
+            length: 9,
+        },
+        BlendFactor::OneMinusSrcAlpha => Spelling {
+            bytes: *b"one-minus-src-alpha ",
+            length: 19,
+        },
+        BlendFactor::Dst => Spelling {
+            bytes: *b"dst                 ",
+            length: 3,
+        },
+        BlendFactor::OneMinusDst => Spelling {
+            bytes: *b"one-minus-dst       ",
+            length: 13,
+        },
+        BlendFactor::DstAlpha => Spelling {
+            bytes: *b"dst-alpha           ",
+            length: 9,
+        },
+        BlendFactor::OneMinusDstAlpha => Spelling {
+            bytes: *b"one-minus-dst-alpha ",
+            length: 19,
+        },
+        BlendFactor::SrcAlphaSaturated => Spelling {
+            bytes: *b"src-alpha-saturated ",
+            length: 19,
+        },
+        BlendFactor::Constant => Spelling {
+            bytes: *b"constant            ",
+            length: 8,
+        },
+        BlendFactor::OneMinusConstant => Spelling {
+            bytes: *b"one-minus-constant  ",
+            length: 18,
+        },
+        BlendFactor::Src1 => Spelling {
+            bytes: *b"src1                ",
+            length: 4,
+        },
+        BlendFactor::OneMinusSrc1 => Spelling {
+            bytes: *b"one-minus-src1      ",
+            length: 14,
+        },
+        BlendFactor::Src1Alpha => Spelling {
+            bytes: *b"src1-alpha          ",
+            length: 10,
+        },
+        BlendFactor::OneMinusSrc1Alpha => Spelling {
+            bytes: *b"one-minus-src1-alpha",
+            length: 20,
+        },
     }
 }
 
@@ -122,10 +233,25 @@ pub fn spell_blend_operation(name: BlendOperation) -> Spelling
     ensures { λ r. ⌜ r ≡ spelled (operationWord name) ⌝ }
 {
     match name {
-        BlendOperation::Add => spell(b"add"),
-        BlendOperation::Subtract => spell(b"subtract"),
-        BlendOperation::ReverseSubtract => spell(b"reverse-subtract"),
-        BlendOperation::Min => spell(b"min"),
-        BlendOperation::Max => spell(b"max"),
+        BlendOperation::Add => Spelling {
+            bytes: *b"add                 ",
+            length: 3,
+        },
+        BlendOperation::Subtract => Spelling {
+            bytes: *b"subtract            ",
+            length: 8,
+        },
+        BlendOperation::ReverseSubtract => Spelling {
+            bytes: *b"reverse-subtract    ",
+            length: 16,
+        },
+        BlendOperation::Min => Spelling {
+            bytes: *b"min                 ",
+            length: 3,
+        },
+        BlendOperation::Max => Spelling {
+            bytes: *b"max                 ",
+            length: 3,
+        },
     }
 }
