@@ -39,7 +39,7 @@ use Rattle.name_reads.specs.Read.{nameOf, ReadsBack, asCompare, compareR
 
 module _ {A : Type 0} (e : Enumeration A) (g : A → ℕ) where
   -- a name that is read has the number
-  has-number : (n : ℕ) (l : List A) (a : A) → nameOf g n l ≡ some a → g a ≡ n
+  pub has-number : (n : ℕ) (l : List A) (a : A) → nameOf g n l ≡ some a → g a ≡ n
   unfolding nameOf
   has-number n [] a q = let z : _≡_ {A = ℕ} 0 1 = cc in absurd (omega arith)
   has-number n (b ∷ l) a q = go (eqb (g b) n) refl q (has-number n l a)

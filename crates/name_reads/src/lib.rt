@@ -5,6 +5,7 @@ ghost use Rattle.name_reads.specs.Read.{compareRead, compareNumber, topo
 
 mod place;
 pub mod spelling;
+pub mod word;
 
 use crate::place::compare_at;
 use crate::place::cull_at;
