@@ -1,6 +1,13 @@
 // Prints each map's entries: the map, the name's place in WebGPU's order, the name, the GL number.
-// The expected output is the Rust's own (`oracle maps`).
+// Then what numbers read back as, for each map that is read back (document 02, request 2).
+// The expected output is the Rust's own (`oracle maps`), and its entries inverted
+// (tools/oracle/tools/mkmaps.py).
+
+mod back;
+
+use crate::back::read_back;
 use libc::STDOUT_FILENO;
+use name_reads::word::Map;
 use names::wgt::BlendFactor;
 use names::wgt::BlendOperation;
 use names::wgt::CompareFunction;
@@ -229,6 +236,24 @@ fn print_blend_op() {
     );
 }
 
+// The tables are those of the maps.
+fn print_reads() {
+    let compares = names::COMPARE_FUNCTIONS;
+    read_back(Map::CompareFunc, b"compare", &compares);
+    let topologies = names::TOPOLOGIES;
+    read_back(Map::PrimitiveTopology, b"topology", &topologies);
+    let fronts = names::FRONT_FACES;
+    read_back(Map::FrontFace, b"front", &fronts);
+    let culls = names::CULL_FACES;
+    read_back(Map::CullMode, b"cull", &culls);
+    let operations = names::STENCIL_OPERATIONS;
+    read_back(Map::StencilOp, b"stencil_op", &operations);
+    let factors = names::BLEND_FACTORS;
+    read_back(Map::BlendFactor, b"blend_factor", &factors);
+    let equations = names::BLEND_OPERATIONS;
+    read_back(Map::BlendOperation, b"blend_op", &equations);
+}
+
 fn main() {
     print_compare();
     print_topology();
@@ -238,4 +263,5 @@ fn main() {
     print_stencil_op();
     print_blend_factor();
     print_blend_op();
+    print_reads();
 }

@@ -20,6 +20,7 @@ use Rattle.name_reads.specs.declared.OperationRead.the-variants.{Name as
 use Rattle.name_reads.specs.declared.word.Map.{Map}
 use Rattle.name_reads.specs.declared.word.Map.the-variants.{CompareFunc, PrimitiveTopology, FrontFace, CullMode, StencilOp, BlendFactor, BlendOperation}
 use Rattle.name_reads.specs.declared.spelling.Spelling.{Spelling}
+use Rattle.name_reads.specs.Read.{compareNumber, topologyNumber, frontNumber, cullNumber, stencilOpNumber, factorNumber, operationNumber}
 use Rattle.name_reads.specs.Read.{compareRead, topologyRead, frontRead, cullRead, stencilOpRead, factorRead, operationRead}
 use Rattle.name_reads.specs.Spelling.{spelled, compareWord, topologyWord, frontWord, cullWord, stencilOpWord, factorWord, operationWord}
 
@@ -59,6 +60,16 @@ wordRead CullMode n = cullShown (cullRead n)
 wordRead StencilOp n = stencilOpShown (stencilOpRead n)
 wordRead BlendFactor n = factorShown (factorRead n)
 wordRead BlendOperation n = operationShown (operationRead n)
+
+-- the number of what a number of a map reads as
+abbrev pub numberRead : Map → ℕ → ℕ
+numberRead CompareFunc n = compareNumber (compareRead n)
+numberRead PrimitiveTopology n = topologyNumber (topologyRead n)
+numberRead FrontFace n = frontNumber (frontRead n)
+numberRead CullMode n = cullNumber (cullRead n)
+numberRead StencilOp n = stencilOpNumber (stencilOpRead n)
+numberRead BlendFactor n = factorNumber (factorRead n)
+numberRead BlendOperation n = operationNumber (operationRead n)
 
 -- what a screen may rely on: `shown` is the word for a number of the map
 pub record Shows {A : Type 0} (map : A → ℕ) (word : A → List ℕ) (shown : ℕ → Spelling) : Type 0 where

@@ -2,7 +2,7 @@
 ghost use mathlib.Core.Path.{_≡_};
 ghost use mathlib.Core.List.{[]};
 ghost use Rattle.name_reads.specs.Spelling.{spelled};
-ghost use Rattle.name_reads.specs.Word.{wordRead, compareShown, topologyShown, frontShown, cullShown, stencilOpShown, factorShown, operationShown};
+ghost use Rattle.name_reads.specs.Word.{wordRead, numberRead, compareShown, topologyShown, frontShown, cullShown, stencilOpShown, factorShown, operationShown};
 use crate::CompareRead;
 use crate::CullRead;
 use crate::FactorRead;
@@ -10,6 +10,11 @@ use crate::FrontRead;
 use crate::OperationRead;
 use crate::StencilOpRead;
 use crate::TopologyRead;
+use crate::compare_number;
+use crate::cull_number;
+use crate::factor_number;
+use crate::front_number;
+use crate::operation_number;
 use crate::read_blend_factor;
 use crate::read_blend_operation;
 use crate::read_compare_func;
@@ -25,6 +30,8 @@ use crate::spelling::spell_cull_mode;
 use crate::spelling::spell_front_face;
 use crate::spelling::spell_primitive_topology;
 use crate::spelling::spell_stencil_op;
+use crate::stencil_op_number;
+use crate::topology_number;
 
 // The maps that are read back, by their names without `map_`.
 pub enum Map {
@@ -49,6 +56,21 @@ pub fn read_word(map: Map, n: u32) -> Spelling
         Map::StencilOp => stencil_op_word(read_stencil_op(n)),
         Map::BlendFactor => factor_word(read_blend_factor(n)),
         Map::BlendOperation => operation_word(read_blend_operation(n)),
+    }
+}
+
+// The number of the answer: 8 where the map never gives the number, otherwise 0.
+pub fn read_number(map: Map, n: u32) -> u8
+    ensures { λ r. ⌜ r ≡ numberRead map n ⌝ }
+{
+    match map {
+        Map::CompareFunc => compare_number(read_compare_func(n)),
+        Map::PrimitiveTopology => topology_number(read_primitive_topology(n)),
+        Map::FrontFace => front_number(read_front_face(n)),
+        Map::CullMode => cull_number(read_cull_mode(n)),
+        Map::StencilOp => stencil_op_number(read_stencil_op(n)),
+        Map::BlendFactor => factor_number(read_blend_factor(n)),
+        Map::BlendOperation => operation_number(read_blend_operation(n)),
     }
 }
 
