@@ -12,7 +12,7 @@ use native.Mathlib.Omega.{arith}
 use lib.Dec.{T, eqb, ltb}
 use lib.ListN.{length, getD}
 use borrow.Author.Tests.{eq-eqb, ne-eqb, eqb-true, eqb-false, ltb-true, ltb-false}
-use Rattle.names.specs.Table.{Enumeration, different}
+use Rattle.names.specs.Table.{Enumeration, different, at-place, map-long}
 use Rattle.name_reads.specs.Read.{nameOf}
 use Rattle.name_reads.specs.Search.{searched, elementAt}
 use Rattle.name_reads.specs.Back.{read-mapped, none-given}
@@ -58,15 +58,6 @@ at-element : {A : Type 0} (d : A) (l : List A) (k : ℕ) → k < length l → el
 at-element d [] k h = absurd (not-suc-le-zero h)
 at-element d (b ∷ l) zero h = refl
 at-element d (b ∷ l) (suc k) h = at-element d l k (le-of-suc-le-suc h)
-
-at-place : {A : Type 0} (g : A → ℕ) (d : A) (l : List A) (k : ℕ) → k < length l → getD (map g l) k 0 ≡ g (getD l k d)
-at-place g d [] k h = absurd (not-suc-le-zero h)
-at-place g d (b ∷ l) zero h = refl
-at-place g d (b ∷ l) (suc k) h = at-place g d l k (le-of-suc-le-suc h)
-
-map-long : {A : Type 0} (g : A → ℕ) (l : List A) → length (map g l) ≡ length l
-map-long g [] = refl
-map-long g (b ∷ l) = ap suc (map-long g l)
 
 module _ {A : Type 0} (e : Enumeration A) (g : A → ℕ) where
   -- the number of the name at a place
