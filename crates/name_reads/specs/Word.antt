@@ -24,6 +24,7 @@ use Rattle.name_reads.specs.Read.{compareNumber, topologyNumber, frontNu
 use Rattle.name_reads.specs.Read.{compareRead, topologyRead, frontRead, cullRead, stencilOpRead, factorRead, operationRead}
 use Rattle.name_reads.specs.Spelling.{spelled, compareWord, topologyWord, frontWord, cullWord, stencilOpWord, factorWord, operationWord}
 
+-- the word of an answer
 abbrev pub compareShown : CompareRead → Spelling
 compareShown (compareName a) = spelled (compareWord a)
 compareShown compareUnknown = spelled []
@@ -52,6 +53,7 @@ abbrev pub operationShown : OperationRead → Spelling
 operationShown (operationName a) = spelled (operationWord a)
 operationShown operationUnknown = spelled []
 
+-- the word for a number, by the map
 abbrev pub wordRead : Map → ℕ → Spelling
 wordRead CompareFunc n = compareShown (compareRead n)
 wordRead PrimitiveTopology n = topologyShown (topologyRead n)
@@ -61,7 +63,7 @@ wordRead StencilOp n = stencilOpShown (stencilOpRead n)
 wordRead BlendFactor n = factorShown (factorRead n)
 wordRead BlendOperation n = operationShown (operationRead n)
 
--- the number of what a number of a map reads as
+-- the number of the answer, by the map
 abbrev pub numberRead : Map → ℕ → ℕ
 numberRead CompareFunc n = compareNumber (compareRead n)
 numberRead PrimitiveTopology n = topologyNumber (topologyRead n)
