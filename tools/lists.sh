@@ -1,10 +1,14 @@
 #!/bin/sh
-# lists.sh COMMAND ARGUMENT... [--program PATH]
+# lists.sh COMMAND ARGUMENT... [--program PATH] [--script PATH]
 # Questions about what is recorded, asked of sessions in the flat form (tools/oracle/README.md).
 #   span A LOWER UPPER  which slots a draw rebinds whose first instance is known only to lie from LOWER to UPPER (request 11 of document 02), in the
 #                       state that the session of file A leaves (-: standard input), on the session's own board:
 #                       `always M sometimes N`, or `refused N` (15: LOWER is above UPPER)
-#   --program PATH      the program: target/bin/span_masks if not given (rt check span_masks)
+#   names A             the pipelines and draws of the lists that the session of file A records (-: standard input), with WebGPU's names in place of GL
+#                       numbers (request 2): SetPrimitive, SetDepth, SetStencilFunc, SetStencilOps, SetColorTarget and the four draws, in the printed
+#                       form, `---` between two lists; a number that has no name stays
+#   --program PATH      the program: target/bin/span_masks, target/bin/list_names if not given (rt check NAME)
+#   --script PATH       with names, the program that records: target/bin/script if not given (rt check script)
 # A holds one session. Exit 2: wrong use, or no program. Exit 1: a number that is none, a file that cannot be read, not one session, or a wrong
 # line, whose number in A is named. Then nothing is printed but the message, on standard error.
 set -eu
@@ -17,17 +21,19 @@ fail() {
 
 usage() {
     echo "usage: lists.sh span A LOWER UPPER [--program PATH]" >&2
+    echo "       lists.sh names A [--program PATH] [--script PATH]" >&2
     exit 2
 }
 
-# The program NAME of the project, where no other was given.
+# The path of the program NAME of the project, $1: $2, or target/bin/NAME where that is empty.
 find_program() {
-    if [ -z "$program" ]; then
-        program=$here/../target/bin/$1
-        [ -x "$program" ] || { echo "lists.sh: no target/bin/$1: rt check $1 makes it" >&2; exit 2; }
+    found=$2
+    if [ -z "$found" ]; then
+        found=$here/../target/bin/$1
+        [ -x "$found" ] || { echo "lists.sh: no target/bin/$1: rt check $1 makes it" >&2; exit 2; }
     fi
-    case $program in */*) ;; *) program=./$program ;; esac
-    { [ -f "$program" ] && [ -x "$program" ]; } || { echo "lists.sh: no program $program" >&2; exit 2; }
+    case $found in */*) ;; *) found=./$found ;; esac
+    { [ -f "$found" ] && [ -x "$found" ]; } || { echo "lists.sh: no program $found" >&2; exit 2; }
 }
 
 check_u32() {
@@ -49,10 +55,10 @@ copy_session() {
     [ -s "$2" ] || fail "$(name_of "$1"): no session"
 }
 
-# The program's error line $1 about an input with one line before those of file $2, whose copy is $3.
+# The program's error line $1 about an input with $4 lines before those of file $2, whose copy is $3.
 wrong_line() {
     rest=${1#error: line }
-    line=$((${rest%%:*} - 1))
+    line=$((${rest%%:*} - $4))
     [ "$line" -le "$(sed -n '$=' "$3")" ] || fail "$(name_of "$2"): the session goes on, but there is no line $line"
     fail "$(name_of "$2"): line $line: ${rest#*: }"
 }
@@ -64,33 +70,55 @@ more_lines() {
 }
 
 span() {
-    [ $# -eq 3 ] || usage
-    find_program span_masks
+    { [ $# -eq 3 ] && [ -z "$script" ]; } || usage
+    find_program span_masks "$program"
     check_u32 LOWER "$2"
     check_u32 UPPER "$3"
     copy_session "$1" "$folder/session"
     { printf '%s %s\n' "$2" "$3" && cat "$folder/session"; } >"$folder/input"
-    "$program" <"$folder/input" >"$folder/answer" || fail "$program failed"
+    "$found" <"$folder/input" >"$folder/answer" || fail "$found failed"
     answer=$(sed -n 1p "$folder/answer")
     case $answer in
-        'error: line '*) wrong_line "$answer" "$1" "$folder/session" ;;
+        'error: line '*) wrong_line "$answer" "$1" "$folder/session" 1 ;;
         'always '* | 'refused '*) ;;
-        *) fail "$program gives no answer" ;;
+        *) fail "$found gives no answer" ;;
     esac
     [ "$(sed -n '$=' "$folder/answer")" -eq 1 ] || more_lines "$1" "$folder/session"
     echo "$answer"
 }
 
+names() {
+    [ $# -eq 1 ] || usage
+    find_program list_names "$program"
+    shows=$found
+    find_program script "$script"
+    copy_session "$1" "$folder/session"
+    "$found" <"$folder/session" >"$folder/printed" || fail "$found failed"
+    ended=$(sed -n '/^===$/{=;q;}' "$folder/printed")
+    if [ -z "$ended" ]; then
+        last=$(sed -n '$p' "$folder/printed")
+        case $last in
+            'error: line '*) wrong_line "$last" "$1" "$folder/session" 0 ;;
+            *) fail "$found gives no answer" ;;
+        esac
+    fi
+    [ "$(sed -n '$=' "$folder/printed")" -eq "$ended" ] || more_lines "$1" "$folder/session"
+    "$shows" <"$folder/printed" >"$folder/answer" || fail "$shows failed"
+    [ "$(sed -n '$p' "$folder/answer")" = === ] || fail "$shows gives no answer"
+    sed '$d' "$folder/answer"
+}
+
 program=
+script=
 left=$#
 while [ "$left" -gt 0 ]; do
     word=$1
     shift
     left=$((left - 1))
     case $word in
-        --program)
+        --program | --script)
             { [ "$left" -gt 0 ] && [ -n "$1" ]; } || usage
-            program=$1
+            if [ "$word" = --program ]; then program=$1; else script=$1; fi
             shift
             left=$((left - 1))
             ;;
@@ -106,5 +134,6 @@ trap 'rm -rf "$folder"' EXIT
 trap 'exit 1' HUP INT TERM
 case $command in
     span) span "$@" ;;
+    names) names "$@" ;;
     *) usage ;;
 esac
