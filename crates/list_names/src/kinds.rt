@@ -5,6 +5,7 @@ use crate::words::first_word;
 use crate::words::next_word;
 use crate::words::same;
 use crate::words::text;
+use name_reads::word::Map;
 
 // A line: dropped, printed as it stands, or one of the commands that are shown. `Unblended` is a
 // SetColorTarget whose blend is `-`.
@@ -21,17 +22,6 @@ pub(crate) enum Kind {
     SetStencilOps,
     SetColorTarget,
     Unblended,
-}
-
-// The maps whose numbers are read back.
-pub(crate) enum Map {
-    Compare,
-    Topology,
-    Front,
-    Cull,
-    StencilOp,
-    Factor,
-    Operation,
 }
 
 // A field: printed as it stands, or read back.
@@ -163,29 +153,29 @@ pub(crate) fn field_of(kind: Kind, k: usize) -> Field {
 
 fn draw_field(k: usize) -> Field {
     match k {
-        0 => Field::Read(Map::Topology),
+        0 => Field::Read(Map::PrimitiveTopology),
         _ => Field::Kept,
     }
 }
 
 fn primitive_field(k: usize) -> Field {
     match k {
-        0 => Field::Read(Map::Front),
-        1 => Field::Read(Map::Cull),
+        0 => Field::Read(Map::FrontFace),
+        1 => Field::Read(Map::CullMode),
         _ => Field::Kept,
     }
 }
 
 fn depth_field(k: usize) -> Field {
     match k {
-        0 => Field::Read(Map::Compare),
+        0 => Field::Read(Map::CompareFunc),
         _ => Field::Kept,
     }
 }
 
 fn stencil_func_field(k: usize) -> Field {
     match k {
-        1 => Field::Read(Map::Compare),
+        1 => Field::Read(Map::CompareFunc),
         _ => Field::Kept,
     }
 }
@@ -201,12 +191,12 @@ fn stencil_ops_field(k: usize) -> Field {
 
 fn color_target_field(k: usize) -> Field {
     match k {
-        2 => Field::Read(Map::Factor),
-        3 => Field::Read(Map::Factor),
-        4 => Field::Read(Map::Operation),
-        5 => Field::Read(Map::Factor),
-        6 => Field::Read(Map::Factor),
-        7 => Field::Read(Map::Operation),
+        2 => Field::Read(Map::BlendFactor),
+        3 => Field::Read(Map::BlendFactor),
+        4 => Field::Read(Map::BlendOperation),
+        5 => Field::Read(Map::BlendFactor),
+        6 => Field::Read(Map::BlendFactor),
+        7 => Field::Read(Map::BlendOperation),
         _ => Field::Kept,
     }
 }

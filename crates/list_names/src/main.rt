@@ -5,7 +5,6 @@
 mod fault;
 mod kinds;
 mod shown;
-mod spelled;
 mod words;
 
 use crate::shown::show;

@@ -4,32 +4,37 @@ use crate::fault::is_none;
 use crate::fault::put_fault;
 use crate::kinds::Field;
 use crate::kinds::Kind;
-use crate::kinds::Map;
 use crate::kinds::field_count;
 use crate::kinds::field_of;
 use crate::kinds::is_command;
 use crate::kinds::is_dropped;
 use crate::kinds::kind_of;
-use crate::spelled::word_of;
 use crate::words::Word;
 use crate::words::first_word;
 use crate::words::next_word;
 use crate::words::text;
 use flat::cursor::start;
 use flat::cursor::take_u32;
+use name_reads::word::Map;
+use name_reads::word::read_word;
 use played::print::put;
 use records::check::within;
+
+// The first `length` bytes.
+fn put_first(out: &mut [u8], used: usize, bytes: &[u8], length: usize) -> usize {
+    let n = within(length, bytes.len());
+    put(out, used, &bytes[..n])
+}
 
 // A number by its name; where it has none, as it stands.
 fn put_read(out: &mut [u8], used: usize, digits: &[u8], map: Map) -> usize {
     let taken = take_u32(digits, start());
-    let word = word_of(map, taken.value);
+    let word = read_word(map, taken.value);
     let bytes = word.bytes;
-    let n = within(word.length, 20);
-    if n == 0 {
+    if word.length == 0 {
         return put(out, used, digits);
     }
-    put(out, used, &bytes[..n])
+    put_first(out, used, &bytes, word.length)
 }
 
 fn put_field(out: &mut [u8], used: usize, word: &[u8], field: Field) -> usize {
