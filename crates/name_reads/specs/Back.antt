@@ -5,36 +5,22 @@ use mathlib.Core.Path.{_≡_, refl, sym, ap, _∙_}
 use mathlib.Core.Bool.{Bool, true, false, cond}
 use mathlib.Core.List.{List, [], _∷_, map}
 use mathlib.Core.Option.{Option, none, some}
-use mathlib.Core.Logic.{_⊎_, inl, inr, _↔_}
+use mathlib.Core.Logic.{_⊎_, inl, inr}
 use native.Mathlib.Nat.{le-of-suc-le-suc, not-suc-le-zero}
 use native.Mathlib.Omega.{arith}
 use lib.Dec.{T, eqb}
 use lib.ListN.{length, getD}
 use borrow.Author.Tests.{eqb-true, eqb-false}
-use Rattle.names.specs.declared.wgt.CompareFunction.{CompareFunction}
-use Rattle.names.specs.declared.wgt.PrimitiveTopology.{PrimitiveTopology}
-use Rattle.names.specs.declared.wgt.FrontFace.{FrontFace}
-use Rattle.names.specs.declared.wgt.CullMode.{CullMode}
-use Rattle.names.specs.declared.wgt.StencilOperation.{StencilOperation}
-use Rattle.names.specs.declared.wgt.BlendFactor.{BlendFactor}
-use Rattle.names.specs.declared.wgt.BlendOperation.{BlendOperation}
 use Rattle.names.specs.Table.{Enumeration, different, injective}
 use Rattle.names.specs.Different.{compareNames, topologyNames, frontNames, cullNames, stencilOpNames, factorNames, operationNames}
 use Rattle.names.specs.Maps.{compareFunc, primitiveTopology, frontFace, cullFace, stencilOp, blendFactor, blendEquation}
-use Rattle.name_reads.specs.declared.CompareRead.{CompareRead}
-use Rattle.name_reads.specs.declared.CompareRead.the-variants.{Name as compareName, Unknown as compareUnknown}
-use Rattle.name_reads.specs.declared.TopologyRead.{TopologyRead}
-use Rattle.name_reads.specs.declared.TopologyRead.the-variants.{Name as topologyName, Unknown as topologyUnknown}
-use Rattle.name_reads.specs.declared.FrontRead.{FrontRead}
-use Rattle.name_reads.specs.declared.FrontRead.the-variants.{Name as frontName, Unknown as frontUnknown}
-use Rattle.name_reads.specs.declared.CullRead.{CullRead}
-use Rattle.name_reads.specs.declared.CullRead.the-variants.{Name as cullName, Unknown as cullUnknown}
-use Rattle.name_reads.specs.declared.StencilOpRead.{StencilOpRead}
-use Rattle.name_reads.specs.declared.StencilOpRead.the-variants.{Name as stencilOpName, Unknown as stencilOpUnknown}
-use Rattle.name_reads.specs.declared.FactorRead.{FactorRead}
-use Rattle.name_reads.specs.declared.FactorRead.the-variants.{Name as factorName, Unknown as factorUnknown}
-use Rattle.name_reads.specs.declared.OperationRead.{OperationRead}
-use Rattle.name_reads.specs.declared.OperationRead.the-variants.{Name as operationName, Unknown as operationUnknown}
+use Rattle.name_reads.specs.declared.CompareRead.the-variants.{Name as compareName}
+use Rattle.name_reads.specs.declared.TopologyRead.the-variants.{Name as topologyName}
+use Rattle.name_reads.specs.declared.FrontRead.the-variants.{Name as frontName}
+use Rattle.name_reads.specs.declared.CullRead.the-variants.{Name as cullName}
+use Rattle.name_reads.specs.declared.StencilOpRead.the-variants.{Name as stencilOpName}
+use Rattle.name_reads.specs.declared.FactorRead.the-variants.{Name as factorName}
+use Rattle.name_reads.specs.declared.OperationRead.the-variants.{Name as operationName}
 use Rattle.name_reads.specs.Read.{nameOf, ReadsBack, asCompare, compareRead, compareNumber, asTopology, topologyRead, topologyNumber, asFront, frontRead, frontNumber, asCull, cullRead, cullNumber, asStencilOp, stencilOpRead, stencilOpNumber, asFactor, factorRead, factorNumber, asOperation, operationRead, operationNumber}
 
 module _ {A : Type 0} (e : Enumeration A) (g : A → ℕ) where

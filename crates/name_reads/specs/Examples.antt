@@ -1,7 +1,6 @@
 -- Document 02, request 2, worked: numbers read back, with the answer's number, and words as they are shown. Assumes nothing.
-use Prim.Native.Nat.{ℕ}
 use mathlib.Core.Path.{_≡_, refl}
-use mathlib.Core.List.{List, [], _∷_}
+use mathlib.Core.List.{[]}
 use mathlib.Core.Option.{some}
 use Rattle.names.specs.declared.wgt.CompareFunction.the-variants.{Equal}
 use Rattle.names.specs.declared.wgt.PrimitiveTopology.the-variants.{PointList}

@@ -3,7 +3,7 @@ use Prim.Native.Nat.{_≤_, _-_}
 use borrow.Author.Needs.{needs}
 use mathlib.Core.Path.{_≡_, refl, sym, _∙_}
 use native.Mathlib.Omega.{arith}
-use lib.ListN.{length, getD}
+use lib.ListN.{length}
 use Rattle.name_reads.specs.Search.{searched, lastPlace}
 use Rattle.name_reads.proofs.Searching.{search-hit, search-miss, search-none}
 use Rattle.name_reads.proofs.place.last_place.Statement.{statement}
