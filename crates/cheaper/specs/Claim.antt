@@ -1,0 +1,39 @@
+-- What document 02, request 10, promises of an answer, sentence by sentence. Definitions only.
+use Prim.Native.Nat.{ℕ, _-_, _≤_, _<_}
+use mathlib.Core.Path.{_≡_}
+use mathlib.Core.List.{List, []}
+use lib.ListN.{length, getD, take}
+use Rattle.cheaper.specs.declared.search.Pieces.{Pieces}
+use Rattle.cheaper.specs.declared.search.Cheaper.{Cheaper}
+use Rattle.cheaper.specs.Orders.{Order, orders, factorial, In}
+use Rattle.cheaper.specs.Prices.{priceOf}
+use Rattle.cheaper.specs.Board.{valueIn}
+
+-- what an order of the pieces costs
+abbrev pub costs : Pieces → List ℕ → ℕ
+costs ps o = priceOf (valueIn (ps .pieces)) o
+
+-- the order that an answer returns: a place number for each piece
+abbrev pub returned : Pieces → Cheaper → List ℕ
+returned ps r = take (ps .count) (r .order)
+
+-- o stands in a list, and what stands before it costs more
+pub record First (f : List ℕ → ℕ) (l : List (List ℕ)) (o : List ℕ) : Type 0 where
+  pub place : ℕ
+  pub inside : place < length l
+  pub here : getD l place [] ≡ o
+  pub dearer : (j : ℕ) → j < place → f o < f (getD l j [])
+
+-- of the answer for at most 8 pieces and a budget above 0
+pub record Promised (ps : Pieces) (budget : ℕ) (r : Cheaper) : Type 0 where
+  -- an order of all pieces, and "its price"
+  pub order : Order (ps .count) (returned ps r)
+  pub price : r .price ≡ costs ps (returned ps r)
+  -- "the cheapest seen, the earlier at a tie": of the first `budget` orders in dictionary order
+  pub cheapest : (o : List ℕ) → In o (take budget (orders (ps .count))) → r .price ≤ costs ps o
+  pub earlier : First (costs ps) (take budget (orders (ps .count))) (returned ps r)
+  -- "No order costs less than the floor, so price less floor bounds the loss"
+  pub floor : (o : List ℕ) → Order (ps .count) o → r .floor ≤ costs ps o
+  pub loss : (o : List ℕ) → Order (ps .count) o → r .price - costs ps o ≤ r .price - r .floor
+  -- "a budget of all orders gives the least price"
+  pub least : factorial (ps .count) ≤ budget → (o : List ℕ) → Order (ps .count) o → r .price ≤ costs ps o

@@ -1,0 +1,15 @@
+pub mod Orders
+pub mod Prices
+pub mod Board
+pub mod Answer
+pub mod Claim
+pub mod Shuffles
+pub mod Floor
+pub mod Count
+pub mod Dictionary
+pub mod Budget
+pub mod Same
+pub mod Places
+pub mod Past
+pub mod Claims
+pub mod Examples
