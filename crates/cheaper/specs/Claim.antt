@@ -5,9 +5,16 @@ use mathlib.Core.List.{List, []}
 use lib.ListN.{length, getD, take}
 use Rattle.cheaper.specs.declared.search.Pieces.{Pieces}
 use Rattle.cheaper.specs.declared.search.Cheaper.{Cheaper}
-use Rattle.cheaper.specs.Orders.{Order, orders, factorial, In}
+use Rattle.cheaper.specs.Orders.{Order, given, orders, factorial, Earlier, In}
 use Rattle.cheaper.specs.Prices.{priceOf}
 use Rattle.cheaper.specs.Board.{valueIn}
+
+-- "beginning with the given one and going on by place numbers in dictionary order": a list of all orders of n pieces, so gone through
+pub record Dictionary (n : ℕ) (l : List (List ℕ)) : Type 0 where
+  pub every : (o : List ℕ) → Order n o → In o l
+  pub only : (o : List ℕ) → In o l → Order n o
+  pub begins : getD l 0 [] ≡ given n
+  pub goes-on : (i k : ℕ) → i < k → k < length l → Earlier (getD l i []) (getD l k [])
 
 -- what an order of the pieces costs
 abbrev pub costs : Pieces → List ℕ → ℕ

@@ -1,28 +1,43 @@
--- What document 02, request 10, promises holds of the function's answer (`promised`, `never-dearer`, `no-pieces`, `too-many`, `no-budget`, `number-is`), which looks at nothing past the count (`past-count`). Assumes nothing.
+-- What document 02, request 10, promises holds of the function's answer: `dictionary`, `promised`, `never-dearer`, `no-pieces`, `too-many`, `no-budget`, `number-is`.
+-- `past-count`: nothing past the count is looked at. Assumes nothing.
 use Prim.Native.Nat.{ℕ, zero, suc, _-_, _≤_, _<_}
 use mathlib.Core.Path.{_≡_, refl, sym, ap, ap₂, _∙_, subst}
 use mathlib.Core.Bool.{Bool, true, false, cond}
 use mathlib.Core.List.{List, [], _++_}
 use native.Mathlib.Omega.{arith}
 use lib.Dec.{eqb, ltb}
-use lib.ListN.{getD, take, replicate}
+use lib.ListN.{length, getD, take, replicate}
 use lib.Seq.{take-nil, take-append-seam, getD-take}
 use borrow.Author.Tests.{lt-ltb, le-ltb, ne-eqb, ltb-true, ltb-false, eqb-true, eqb-false}
 use Rattle.cheaper.specs.declared.pieces.Piece.{Piece}
 use Rattle.cheaper.specs.declared.search.Outcome.the-variants.{Done, TooManyPieces, NoBudget}
 use Rattle.cheaper.specs.declared.search.Pieces.{Pieces}
 use Rattle.cheaper.specs.declared.search.Cheaper.{Cheaper}
-use Rattle.cheaper.specs.Orders.{Order, from, given, arranged, orders}
+use Rattle.cheaper.specs.Orders.{Order, from, given, arranged, orders, factorial}
 use Rattle.cheaper.specs.Prices.{sumTo, distinct, priceOf, floorOf, cheapest, tried, chosen}
 use Rattle.cheaper.specs.Floor.{no-order-below}
-use Rattle.cheaper.specs.Budget.{cheapest-in, tried-in, tried-is, chosen-order, chosen-least, larger-budget, all-orders}
+use Rattle.cheaper.specs.Budget.{cheapest-in, tried-in, tried-is, first-order, chosen-order, chosen-least, larger-budget, all-orders}
 use Rattle.cheaper.specs.Places.{cheapest-first}
 use Rattle.cheaper.specs.Same.{order-places}
 use Rattle.cheaper.specs.Past.{floor-same, chosen-same, price-same}
 use Rattle.cheaper.specs.Board.{noPiece, thingOf, valueIn}
 use Rattle.cheaper.specs.Answer.{number, away, found, answered}
-use Rattle.cheaper.specs.Claim.{costs, returned, First, Promised}
+use Rattle.cheaper.specs.Claim.{Dictionary, costs, returned, First, Promised}
+use Rattle.cheaper.specs.Shuffles.{orders-only, orders-all}
+use Rattle.cheaper.specs.Dictionary.{orders-up}
 use Rattle.cheaper.specs.Count.{orders-long}
+
+-- the orders that are tried, and how many there are
+pub dictionary : (n : ℕ) → Dictionary n (orders n) × (length (orders n) ≡ factorial n)
+dictionary n = (
+  record {
+    every = orders-all n;
+    only = orders-only n;
+    begins = first-order n [];
+    goes-on = λ i k h l. orders-up n i k [] h (subst (λ (m : ℕ). k < m) (orders-long n) l);
+  },
+  orders-long n,
+)
 
 pub is-found : (ps : Pieces) (budget : ℕ) → ps .count ≤ 8 → 0 < budget → answered ps budget ≡ found ps budget
 unfolding answered
@@ -67,7 +82,9 @@ module _ (ps : Pieces) (h : ps .count ≤ 8) where
         order = subst (Order n) (sym e) (chosen-order v n budget p);
         price = ap (priceOf v) (sym e);
         cheapest = λ o m. chosen-least v n budget o p m;
-        earlier = subst (First (costs ps) (take budget (orders n))) (sym e) (subst (λ (l : List (List ℕ)). First (costs ps) l (chosen v n budget)) (tried-is n budget p) (cheapest-first (priceOf v) (given n) (tried n budget)));
+        earlier =
+            subst (First (costs ps) (take budget (orders n))) (sym e)
+            (subst (λ (l : List (List ℕ)). First (costs ps) l (chosen v n budget)) (tried-is n budget p) (cheapest-first (priceOf v) (given n) (tried n budget)));
         floor = λ o q. no-order-below v n o q;
         loss = λ o q. bounded (priceOf v (chosen v n budget)) (priceOf v o) (floorOf v n) (no-order-below v n o q);
         least = λ l o q. all-orders v n budget o p (subst (λ (k : ℕ). k ≤ budget) (sym (orders-long n)) l) q;

@@ -138,7 +138,8 @@ arranged-at (suc n) xs i d e h =
     (λ j h. length-map (arranged n (getD (picks xs) j noPick .rest)) (λ (o : List ℕ). getD (picks xs) j noPick .one ∷ o) ∙ arranged-long n (getD (picks xs) j noPick .rest) (rest-long n xs j e h))
     (subst (λ (k : ℕ). i < k * factorial n) (sym (picks-long xs ∙ e)) h)
     ∙ ap (λ (p : Pick). getD (begun n p) (i % factorial n) d) (picks-at xs (i / factorial n) low)
-    ∙ map-at (λ (o : List ℕ). getD xs (i / factorial n) 0 ∷ o) (arranged n (removed (i / factorial n) xs)) (i % factorial n) [] d (subst (λ (k : ℕ). i % factorial n < k) (sym (arranged-long n (removed (i / factorial n) xs) long)) (mod-lt i (factorial-pos n)))
+    ∙ map-at (λ (o : List ℕ). getD xs (i / factorial n) 0 ∷ o) (arranged n (removed (i / factorial n) xs)) (i % factorial n) [] d
+    (subst (λ (k : ℕ). i % factorial n < k) (sym (arranged-long n (removed (i / factorial n) xs) long)) (mod-lt i (factorial-pos n)))
     ∙ ap (λ (o : List ℕ). getD xs (i / factorial n) 0 ∷ o) (arranged-at n (removed (i / factorial n) xs) (i % factorial n) [] long (mod-lt i (factorial-pos n)))
   where
     low : i / factorial n < length xs

@@ -1,5 +1,6 @@
 -- No order costs less than the floor. Assumes nothing.
--- Along any order the changes of one thing are at least its distinct values less one (`changes`); how many values there are does not depend on the order (`distinct-same`); the price is the sum of the changes of the eighteen things (`along-sum`).
+-- Along any order the changes of one thing are at least its distinct values less one (`changes`); how many values there are does not depend on the order (`distinct-same`);
+-- the price is the sum of the changes of the eighteen things (`along-sum`).
 use Prim.Native.Nat.{ℕ, zero, suc, _+_, _-_, _≤_, _<_}
 use mathlib.Core.Path.{_≡_, refl, sym, ap, ap₂, _∙_, subst}
 use mathlib.Core.Bool.{Bool, true, false, cond, _||_}

@@ -1,4 +1,4 @@
--- d are the places given out, of orders that go on with what is left.
+-- `cheaper::order::order_at` meets its contract: d are the places given out, of orders that go on with what is left. Assumes nothing.
 use Prim.Native.Nat.{ℕ, zero, suc, _-_, _/_, _%_, _≤_, _<_}
 use mathlib.Core.Path.{_≡_, refl, sym, ap, ap₂, _∙_, subst}
 use mathlib.Core.List.{List, [], _++_, append-nil}

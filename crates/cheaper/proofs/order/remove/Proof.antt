@@ -1,4 +1,4 @@
--- Below j nothing has changed; from j up to the place before k each element is the next one.
+-- `cheaper::order::remove` meets its contract: below j nothing has changed; from j up to the place before k each element is the next one. Assumes nothing.
 use Prim.Native.Nat.{ℕ, suc, _+_, _-_, _≤_, _<_}
 use mathlib.Core.Path.{_≡_, refl, ap, _∙_}
 use mathlib.Core.List.{List}

@@ -1,4 +1,4 @@
--- The two cases of the test.
+-- `cheaper::pieces::differ` meets its contract: the two cases of the test. Assumes nothing.
 use native.Mathlib.Omega.{arith}
 use borrow.Author.Tests.{eq-eqb, ne-eqb}
 use Rattle.cheaper.proofs.pieces.differ.Statement.{statement}

@@ -1,4 +1,4 @@
--- The sum so far is that of the things gone through.
+-- `cheaper::pieces::floor_of` meets its contract: the sum so far is that of the things gone through. Assumes nothing.
 use Prim.Native.Nat.{ℕ, _+_, _-_, _*_, _≤_}
 use mathlib.Core.Path.{_≡_, refl, ap, ap₂, _∙_}
 use mathlib.Core.List.{map}

@@ -1,4 +1,4 @@
--- The places from j on are gone through.
+-- `cheaper::pieces::later` meets its contract: the places from j on are gone through. Assumes nothing.
 use Prim.Native.Nat.{ℕ, _-_, _≤_}
 use mathlib.Core.Path.{_≡_, sym, ap, ap₂, _∙_}
 use mathlib.Core.Bool.{Bool, _||_}

@@ -1,4 +1,4 @@
--- The prices below k are right.
+-- `cheaper::pieces::table` meets its contract: the prices below k are right. Assumes nothing.
 use Prim.Native.Nat.{ℕ, _-_, _/_, _%_, _≤_, _<_}
 use mathlib.Core.Path.{_≡_, refl, sym, _∙_, subst}
 use native.Mathlib.Omega.{arith}

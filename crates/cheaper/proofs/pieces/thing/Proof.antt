@@ -1,4 +1,4 @@
--- The cases of the tests.
+-- `cheaper::pieces::thing` meets its contract: the cases of the tests. Assumes nothing.
 use borrow.Author.Tests.{eq-eqb, ne-eqb, le-leb, lt-leb}
 use borrow.Author.Needs.{needs}
 use Rattle.cheaper.proofs.pieces.thing.Statement.{statement}

@@ -1,4 +1,4 @@
--- Both refusals in their order, and then the search.
+-- `cheaper::search::cheaper_order` meets its contract: both refusals in their order, and then the search. Assumes nothing.
 use Prim.Native.Nat.{ℕ, _+_, _-_, _*_, _/_, _%_, _≤_, _<_, min}
 use mathlib.Core.Path.{_≡_, sym, ap, _∙_, subst}
 use mathlib.Core.List.{List, _++_}

@@ -1,4 +1,4 @@
--- The sum is the price from the place before k on.
+-- `cheaper::search::price` meets its contract: the sum is the price from the place before k on. Assumes nothing.
 use Prim.Native.Nat.{ℕ, suc, _+_, _-_, _*_, _≤_, _<_}
 use mathlib.Core.Path.{_≡_, sym, ap, ap₂, _∙_}
 use native.Mathlib.Omega.{arith}

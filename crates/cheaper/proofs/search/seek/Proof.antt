@@ -1,4 +1,4 @@
--- x is the cheapest so far: with the orders that are left it gives the cheapest of all.
+-- `cheaper::search::seek` meets its contract: x is the cheapest so far: with the orders that are left it gives the cheapest of all. Assumes nothing.
 use Prim.Native.Nat.{ℕ, suc, _+_, _-_, _*_, _≤_}
 use mathlib.Core.Path.{_≡_, refl, sym, ap, ap₂, _∙_}
 use mathlib.Core.Bool.{Bool, true, false, cond}

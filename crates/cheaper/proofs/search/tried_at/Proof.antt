@@ -1,4 +1,4 @@
--- An order has the places below n.
+-- `cheaper::search::tried_at` meets its contract: an order has the places below n. Assumes nothing.
 use Prim.Native.Nat.{ℕ, _+_, _-_, _*_, _<_}
 use mathlib.Core.Path.{sym, ap, _∙_, subst}
 use mathlib.Core.List.{List}
