@@ -78,7 +78,8 @@ pub moved-down : (left r : List ℕ) (m j : ℕ) → length left ≡ 8 → lengt
     → ((q : ℕ) → q < j → getD r q 0 ≡ getD left q 0) → ((q : ℕ) → j ≤ q → q + 1 < m → getD r q 0 ≡ getD left (suc q) 0)
     → take (m - 1) r ≡ removed j (take m left)
 moved-down left r m j le lr h k low high =
-    ext-getD 0 (take (m - 1) r) (removed j (take m left)) (short ∙ less (m - 1) (length (removed j (take m left))) m (omega arith) (sym long ∙ removed-long (take m left) j (subst (λ (n : ℕ). j < n) (sym long) k)))
+    ext-getD 0 (take (m - 1) r) (removed j (take m left)) (short ∙ less (m - 1) (length (removed j (take m left))) m (omega arith)
+    (sym long ∙ removed-long (take m left) j (subst (λ (n : ℕ). j < n) (sym long) k)))
     (λ q l. at q (subst (λ (n : ℕ). q < n) short l) (decLt q j))
   where
     long : length (take m left) ≡ m

@@ -62,7 +62,8 @@ all-append b [] r h k = k
 all-append b (x ∷ l) r h k = (h .0, all-append b l r (h .1) k)
 
 pub padded-low : (n i q : ℕ) → n ≤ 8 → i < factorial n → getD (orderAt n (given n) i ++ replicate (8 - n) 0) q 0 < 8
-padded-low n i q h l = all-at 8 (orderAt n (given n) i ++ replicate (8 - n) 0) q (omega arith) (all-append 8 (orderAt n (given n) i) (replicate (8 - n) 0) (all-order 8 n (orderAt n (given n) i) h (order-in n i l)) (all-zeros 8 (8 - n) (omega arith)))
+padded-low n i q h l = all-at 8 (orderAt n (given n) i ++ replicate (8 - n) 0) q (omega arith)
+    (all-append 8 (orderAt n (given n) i) (replicate (8 - n) 0) (all-order 8 n (orderAt n (given n) i) h (order-in n i l)) (all-zeros 8 (8 - n) (omega arith)))
 
 pub order-long : (n : ℕ) (xs : List ℕ) (i : ℕ) → length (orderAt n xs i) ≡ n
 unfolding orderAt

@@ -38,7 +38,8 @@ blocks-long f [] e b h = sym (zero-times b)
     zero-times : (b : ℕ) → 0 * b ≡ 0
     zero-times b = omega arith
 blocks-long f (a ∷ l) e b h =
-    length-append (f a) (each f l) ∙ ap₂ (λ (x y : ℕ). x + y) (h 0 (omega arith)) (blocks-long f l e b (λ j k. h (suc j) (omega arith))) ∙ sum b (length l * b) (suc (length l) * b) (suc-mul (length l) b)
+    length-append (f a) (each f l) ∙ ap₂ (λ (x y : ℕ). x + y) (h 0 (omega arith)) (blocks-long f l e b (λ j k. h (suc j) (omega arith))) ∙ sum b (length l * b) (suc (length l) * b)
+    (suc-mul (length l) b)
   where
     sum : (x y z : ℕ) → z ≡ y + x → x + y ≡ z
     sum x y z e = omega arith

@@ -41,7 +41,8 @@ removed-up xs r h u j k p q = go (decLt j r) (decLt k r)
       where
         out : (j k r : ℕ) → j < k → (j < r → ⊥) → k < r → ⊥
         out j k r p a b = omega arith
-    go (no a) (no b) = subst₂ (λ (x y : ℕ). x < y) (sym (removed-high xs r j (omega (arith, n)))) (sym (removed-high xs r k (omega (arith, n)))) (u (suc j) (suc k) (omega (arith, n)) (omega (arith, n)))
+    go (no a) (no b) = subst₂ (λ (x y : ℕ). x < y) (sym (removed-high xs r j (omega (arith, n)))) (sym (removed-high xs r k (omega (arith, n))))
+        (u (suc j) (suc k) (omega (arith, n)) (omega (arith, n)))
 
 -- of two numbers the smaller has the smaller quotient, or the same and the smaller rest
 split : (i k f : ℕ) → 0 < f → i < k → (i / f < k / f) ⊎ ((i / f ≡ k / f) × (i % f < k % f))
@@ -71,7 +72,8 @@ up zero xs i k e u h l = absurd (none i k h l)
   where
     none : (i k : ℕ) → i < k → k < 1 → ⊥
     none i k h l = omega arith
-up (suc n) xs i k e u h l = go (split i k (factorial n) (factorial-pos n) h) (λ q. up n (removed (k / factorial n) xs) (i % factorial n) (k % factorial n) long (removed-up xs (k / factorial n) low u) q (mod-lt k (factorial-pos n)))
+up (suc n) xs i k e u h l = go (split i k (factorial n) (factorial-pos n) h)
+    (λ q. up n (removed (k / factorial n) xs) (i % factorial n) (k % factorial n) long (removed-up xs (k / factorial n) low u) q (mod-lt k (factorial-pos n)))
   where
     low : k / factorial n < length xs
     low = subst (λ (m : ℕ). k / factorial n < m) (sym e) (div-lt-iff-lt-mul (factorial-pos n) .1 l)
@@ -86,7 +88,11 @@ up (suc n) xs i k e u h l = go (split i k (factorial n) (factorial-pos n) h) (λ
         → (i % factorial n < k % factorial n → Earlier (orderAt n (removed (k / factorial n) xs) (i % factorial n)) (orderAt n (removed (k / factorial n) xs) (k % factorial n)))
         → Earlier (getD xs (i / factorial n) 0 ∷ orderAt n (removed (i / factorial n) xs) (i % factorial n)) (getD xs (k / factorial n) 0 ∷ orderAt n (removed (k / factorial n) xs) (k % factorial n))
     go (inl a) ih = inl (u (i / factorial n) (k / factorial n) a low)
-    go (inr (a, b)) ih = inr (ap (λ (j : ℕ). getD xs j 0) a, subst (λ (j : ℕ). Earlier (orderAt n (removed j xs) (i % factorial n)) (orderAt n (removed (k / factorial n) xs) (k % factorial n))) (sym a) (ih b))
+    go (inr (a, b)) ih = inr (
+      ap (λ (j : ℕ). getD xs j 0) a,
+      subst (λ (j : ℕ). Earlier (orderAt n (removed j xs) (i % factorial n))
+          (orderAt n (removed (k / factorial n) xs) (k % factorial n))) (sym a) (ih b),
+    )
 
 from-at : (i n j : ℕ) → j < n → getD (from i n) j 0 ≡ i + j
 unfolding from

@@ -13,7 +13,8 @@ use Rattle.cheaper.proofs.order.order_at.Statement.{statement}
 use Rattle.cheaper.proofs.order.order_at.Tie as tie
 
 abbrev Inv-loop : tie.InvT-loop
-Inv-loop n i out₀ left₀ rest₀ m₀ out left rest m = (m ≤ n) × (rest < factorial m) × (length left ≡ 8) × (length out ≡ 8) × ((d : List ℕ) × (out ≡ d ++ replicate (8 - (n - m)) 0) × (length d ≡ n - m) × (d ++ orderAt m (take m left) rest ≡ orderAt n (given n) i))
+Inv-loop n i out₀ left₀ rest₀ m₀ out left rest m = (m ≤ n) × (rest < factorial m) × (length left ≡ 8) × (length out ≡ 8) ×
+    ((d : List ℕ) × (out ≡ d ++ replicate (8 - (n - m)) 0) × (length d ≡ n - m) × (d ++ orderAt m (take m left) rest ≡ orderAt n (given n) i))
 
 abbrev μ-loop : tie.MeasureT-loop
 μ-loop n i out₀ left₀ rest₀ m₀ out left rest m = m
@@ -91,7 +92,8 @@ loop-again c =
       subst (λ (n : ℕ). l .rest % n < factorial (l .m - 1)) (sym (c .before .orders-of .ensures)) (rest-low (l .m - 1) (l .rest)),
       search needs,
       length-set (l .out) (a .n - l .m) (getD (l .left) (l .rest / c .before .orders-of .result) 0) ∙ l .inv .3,
-      turn (a .n) (l .m) (l .rest) (c .before .orders-of .result) (l .out) (l .left) (c .remove .result) (d .0) (orderAt (a .n) (given (a .n)) (a .i)) (l .inv .0) (c .before .before .before .before .pre .0) (c .before .before .loop-test .taken) (l .inv .1) (c .before .orders-of .ensures) (d .1) (d .2) (d .3) (c .remove .ensures),
+      turn (a .n) (l .m) (l .rest) (c .before .orders-of .result) (l .out) (l .left) (c .remove .result) (d .0) (orderAt (a .n) (given (a .n)) (a .i)) (l .inv .0)
+          (c .before .before .before .before .pre .0) (c .before .before .loop-test .taken) (l .inv .1) (c .before .orders-of .ensures) (d .1) (d .2) (d .3) (c .remove .ensures),
     )
 
 returns : tie.Need-returns Inv-loop μ-loop

@@ -54,7 +54,8 @@ loop-again c =
     let l = c .before .before .before .before .loop in (
       omega arith,
       length-set (l .r) (l .k) (c .differing .result) ∙ l .inv .1,
-      put (λ q x. (x ≡ between (valueIn (c .before .before .before .before .before .args .t1)) (q / 8) (q % 8)) × (x ≤ 18)) (l .r) (l .k) (c .differing .result) (subst (λ (n : ℕ). l .k < n) (sym (l .inv .1)) (c .before .before .before .loop-test .taken)) (l .inv .2) (c .differing .ensures),
+      put (λ q x. (x ≡ between (valueIn (c .before .before .before .before .before .args .t1)) (q / 8) (q % 8)) × (x ≤ 18)) (l .r) (l .k) (c .differing .result)
+          (subst (λ (n : ℕ). l .k < n) (sym (l .inv .1)) (c .before .before .before .loop-test .taken)) (l .inv .2) (c .differing .ensures),
     )
 
 returns : tie.Need-returns Inv-loop μ-loop

@@ -20,10 +20,12 @@ use Rattle.cheaper.proofs.search.cheaper_order.Statement.{statement}
 use Rattle.cheaper.proofs.search.cheaper_order.Tie as tie
 
 -- how many orders are tried
-turns-is : (c : tie.After-at-most) → c .at-most .result ≡ min (c .before .before .before .before .before .before .before .args .budget) (factorial (c .before .before .before .before .before .before .before .args .ps .count))
+turns-is : (c : tie.After-at-most) → c .at-most .result ≡ min (c .before .before .before .before .before .before .before .args .budget)
+    (factorial (c .before .before .before .before .before .before .before .args .ps .count))
 turns-is c = c .at-most .ensures ∙ ap (min (c .before .before .before .before .before .before .before .args .budget)) (c .before .orders-of .ensures)
 
-whole : {o o′ : List ℕ} {p p′ f f′ : ℕ} → o ≡ o′ → p ≡ p′ → f ≡ f′ → _≡_ {A = Cheaper} (record { outcome = Done; order = o; price = p; floor = f }) (record { outcome = Done; order = o′; price = p′; floor = f′ })
+whole : {o o′ : List ℕ} {p p′ f f′ : ℕ} → o ≡ o′ → p ≡ p′ → f ≡ f′ → _≡_ {A = Cheaper} (record { outcome = Done; order = o; price = p; floor = f })
+    (record { outcome = Done; order = o′; price = p′; floor = f′ })
 whole a b c = λ i. record { outcome = Done; order = a i; price = b i; floor = c i }
 
 turned-away-requires : tie.Need-turned-away-requires
@@ -38,7 +40,12 @@ turned-away-requires-2 c κs = search needs
 
 returns-2 : tie.Need-returns-2
 unfolding answered
-returns-2 c = simp (le-ltb 8 (c .before .before .before .args .ps .count) (c .before .before .if1 .left), eq-eqb (c .before .before .before .args .budget) 0 (c .before .if2 .taken), c .turned-away2 .ensures)
+returns-2 c = simp (
+  le-ltb 8 (c .before .before .before .args .ps .count) (c .before .before .if1 .left),
+  eq-eqb (c .before .before .before .args .budget) 0
+      (c .before .if2 .taken),
+  c .turned-away2 .ensures,
+)
 
 table-requires : tie.Need-table-requires
 table-requires c κs = search needs
@@ -72,10 +79,12 @@ returns-3 c =
     let right : (k : ℕ) → k < 64 → getD (s .before .before .before .table .result) k 0 ≡ between v (k / 8) (k % 8) = λ k h. s .before .before .before .table .ensures k h .0 in
     let h : n ≤ 8 = omega arith in
     let p : 0 < a .budget = omega arith in
-    let e : sought (s .before .before .before .table .result) n (s .at-most .result) ≡ chosen v n (a .budget) = ap (sought (s .before .before .before .table .result) n) (turns-is s) ∙ same-choice v (s .before .before .before .table .result) right n (a .budget) h p in
+    let e : sought (s .before .before .before .table .result) n (s .at-most .result) ≡ chosen v n (a .budget) = ap (sought (s .before .before .before .table .result) n)
+    (turns-is s) ∙ same-choice v (s .before .before .before .table .result) right n (a .budget) h p in
     rw (le-ltb 8 n h, ne-eqb (a .budget) 0 (λ (q : a .budget ≡ 0). omega arith))
     (whole (c .before .seek .ensures .0 ∙ ap (λ (o : List ℕ). o ++ replicate (8 - n) 0) e)
-    (c .before .seek .ensures .1 ∙ ap (total (λ x y. getD (s .before .before .before .table .result) (x * 8 + y) 0)) e ∙ same-price v (s .before .before .before .table .result) right n (chosen v n (a .budget)) h (chosen-in v (s .before .before .before .table .result) right n (a .budget) p))
+    (c .before .seek .ensures .1 ∙ ap (total (λ x y. getD (s .before .before .before .table .result) (x * 8 + y) 0)) e ∙ same-price v
+    (s .before .before .before .table .result) right n (chosen v n (a .budget)) h (chosen-in v (s .before .before .before .table .result) right n (a .budget) p))
     (s .before .before .floor-of .ensures))
 
 pub cheaper-order-spec : {M : Type 1} → statement M

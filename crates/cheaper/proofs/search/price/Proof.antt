@@ -92,7 +92,8 @@ loop-again c =
     let j : suc (l .k - 1 - 1) ≡ l .k - 1 = omega arith in (
       omega arith,
       sym (total-step d (take (a .n) (a .t2)) (l .k - 1 - 1) (omega arith)
-          ∙ ap₂ (λ (x y : ℕ). d x y + total d (drop (suc (l .k - 1 - 1)) (take (a .n) (a .t2)))) (getD-take (a .n) (a .t2) (l .k - 1 - 1) 0 (omega arith)) (getD-take (a .n) (a .t2) (suc (l .k - 1 - 1)) 0 (omega arith))
+          ∙ ap₂ (λ (x y : ℕ). d x y + total d (drop (suc (l .k - 1 - 1)) (take (a .n) (a .t2)))) (getD-take (a .n) (a .t2) (l .k - 1 - 1) 0 (omega arith))
+          (getD-take (a .n) (a .t2) (suc (l .k - 1 - 1)) 0 (omega arith))
           ∙ ap (λ (i : ℕ). d (getD (a .t2) (l .k - 1 - 1) 0) (getD (a .t2) i 0) + total d (drop i (take (a .n) (a .t2)))) j
           ∙ ap (λ (x : ℕ). d (getD (a .t2) (l .k - 1 - 1) 0) (getD (a .t2) (l .k - 1) 0) + x) (sym (l .inv .1))),
       omega arith,

@@ -19,7 +19,8 @@ use Rattle.cheaper.proofs.search.seek.Statement.{statement}
 use Rattle.cheaper.proofs.search.seek.Tie as tie
 
 abbrev Inv-loop : tie.InvT-loop
-Inv-loop between n turns best₀ i₀ best i = (1 ≤ i) × (i ≤ turns) × ((x : List ℕ) × (best .order ≡ x ++ replicate (8 - n) 0) × (best .price ≡ total (λ a b. getD between (a * 8 + b) 0) x) × (cheapest (total (λ a b. getD between (a * 8 + b) 0)) x (drop i (take turns (orders n))) ≡ sought between n turns))
+Inv-loop between n turns best₀ i₀ best i = (1 ≤ i) × (i ≤ turns) × ((x : List ℕ) × (best .order ≡ x ++ replicate (8 - n) 0) ×
+    (best .price ≡ total (λ a b. getD between (a * 8 + b) 0) x) × (cheapest (total (λ a b. getD between (a * 8 + b) 0)) x (drop i (take turns (orders n))) ≡ sought between n turns))
 
 abbrev μ-loop : tie.MeasureT-loop
 μ-loop between n turns best₀ i₀ best i = turns - i
@@ -30,7 +31,8 @@ chose : (f : List ℕ → ℕ) (n : ℕ) (x y g : List ℕ) (ys : List (List ℕ
 unfolding cheapest
 chose f n x y g ys a b r ao ap′ bo bp e h = go (ltb (b .price) (a .price)) e (ap₂ ltb bp ap′) h
   where
-    go : (t : Bool) → r ≡ cond t b a → t ≡ ltb (f y) (f x) → cheapest f (cond (ltb (f y) (f x)) y x) ys ≡ g → (z : List ℕ) × (r .order ≡ z ++ replicate (8 - n) 0) × (r .price ≡ f z) × (cheapest f z ys ≡ g)
+    go : (t : Bool) → r ≡ cond t b a → t ≡ ltb (f y) (f x) → cheapest f (cond (ltb (f y) (f x)) y x) ys ≡ g → (z : List ℕ) × (r .order ≡ z ++ replicate (8 - n) 0) × (r .price ≡ f z) ×
+        (cheapest f z ys ≡ g)
     go true e q h = (y, ap (λ (t : Tried). t .order) e ∙ bo, ap (λ (t : Tried). t .price) e ∙ bp, ap (λ (t : Bool). cheapest f (cond t y x) ys) q ∙ h)
     go false e q h = (x, ap (λ (t : Tried). t .order) e ∙ ao, ap (λ (t : Tried). t .price) e ∙ ap′, ap (λ (t : Bool). cheapest f (cond t y x) ys) q ∙ h)
 
@@ -68,7 +70,8 @@ loop-again c =
     let d = l .inv .2 in
     let y = orderAt (a .n) (given (a .n)) (l .i) in
     let g = sought (a .between) (a .n) (a .turns) in
-    let r = chose f (a .n) (d .0) y g (drop (suc (l .i)) (take (a .turns) (orders (a .n)))) (l .best) (c .before .tried-at2 .result) (c .better .result) (d .1) (d .2) (c .before .tried-at2 .ensures .0) (c .before .tried-at2 .ensures .1) (c .better .ensures)
+    let r = chose f (a .n) (d .0) y g (drop (suc (l .i)) (take (a .turns) (orders (a .n)))) (l .best) (c .before .tried-at2 .result) (c .better .result) (d .1) (d .2)
+    (c .before .tried-at2 .ensures .0) (c .before .tried-at2 .ensures .1) (c .better .ensures)
     (ap (cheapest f (d .0)) (sym (left-begins (a .n) (a .turns) (l .i) (c .before .before .loop-test .taken) (s .pre .2))) ∙ d .3) in
     (omega arith, omega arith, (r .0, r .1, r .2, ap (λ (k : ℕ). cheapest f (r .0) (drop k (take (a .turns) (orders (a .n))))) (add-one (l .i)) ∙ r .3))
 
@@ -81,7 +84,8 @@ returns c =
     let f : List ℕ → ℕ = total (λ x y. getD (a .between) (x * 8 + y) 0) in
     let d = l .inv .2 in
     let z : a .turns ≡ l .i = omega arith in
-    let e : d .0 ≡ sought (a .between) (a .n) (a .turns) = ap (cheapest f (d .0)) (sym (ap (λ (k : ℕ). drop k (take (a .turns) (orders (a .n)))) (sym z) ∙ left-none (a .n) (a .turns) (s .pre .2))) ∙ d .3 in
+    let e : d .0 ≡ sought (a .between) (a .n) (a .turns) = ap (cheapest f (d .0))
+    (sym (ap (λ (k : ℕ). drop k (take (a .turns) (orders (a .n)))) (sym z) ∙ left-none (a .n) (a .turns) (s .pre .2))) ∙ d .3 in
     (d .1 ∙ ap (λ (o : List ℕ). o ++ replicate (8 - a .n) 0) e, d .2 ∙ ap f e)
 
 pub seek-spec : {M : Type 1} → statement M

@@ -17,7 +17,12 @@ order-at-requires : tie.Need-order-at-requires
 order-at-requires c κs = search needs
 
 price-requires : tie.Need-price-requires
-price-requires c κs = (c .before .pre .0, λ q. subst (λ (l : List ℕ). getD l q 0 < 8) (sym (c .order-at .ensures)) (padded-low (c .before .args .n) (c .before .args .i) q (c .before .pre .0) (c .before .pre .1)), c .before .pre .2)
+price-requires c κs = (
+  c .before .pre .0,
+  λ q. subst (λ (l : List ℕ). getD l q 0 < 8) (sym (c .order-at .ensures))
+      (padded-low (c .before .args .n) (c .before .args .i) q (c .before .pre .0) (c .before .pre .1)),
+  c .before .pre .2,
+)
 
 returns : tie.Need-returns
 returns c =
