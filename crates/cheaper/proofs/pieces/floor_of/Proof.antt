@@ -22,7 +22,7 @@ unfolding sumTo
 loop-holds c = (omega arith, refl, omega arith)
 
 distinct-of-requires : tie.Need-distinct-of-requires Inv-loop μ-loop
-distinct-of-requires c κs = c .before .before .pre
+distinct-of-requires c κs = omega (arith, c .before .before .pre)
 
 less-one-requires : tie.Need-less-one-requires Inv-loop μ-loop
 less-one-requires c κs = search needs
