@@ -102,6 +102,10 @@ module _ (ps : Pieces) (h : ps .count ≤ 8) where
       subst (λ (r : Cheaper). answered ps b .price ≤ r .price) (sym (is-found ps a h p))
       (subst (λ (r : Cheaper). r .price ≤ found ps a .price) (sym (is-found ps b h (omega arith))) (larger-budget v n a b p l))
 
+-- r is what `cheaper_order` handed back
+pub handed : (ps : Pieces) (budget : ℕ) (r : Cheaper) → r ≡ answered ps budget → ps .count ≤ 8 → 0 < budget → Promised ps budget r
+handed ps budget r e h p = subst (Promised ps budget) (sym e) (promised ps h budget p)
+
 -- "No pieces give price 0 and floor 0"
 pub no-pieces : (ps : Pieces) (budget : ℕ) → ps .count ≡ 0 → 0 < budget → (answered ps budget .price ≡ 0) × (answered ps budget .floor ≡ 0)
 unfolding sumTo distinct from arranged cheapest
