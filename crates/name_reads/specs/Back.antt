@@ -21,7 +21,8 @@ use Rattle.name_reads.specs.declared.CullRead.the-variants.{Name as cull
 use Rattle.name_reads.specs.declared.StencilOpRead.the-variants.{Name as stencilOpName}
 use Rattle.name_reads.specs.declared.FactorRead.the-variants.{Name as factorName}
 use Rattle.name_reads.specs.declared.OperationRead.the-variants.{Name as operationName}
-use Rattle.name_reads.specs.Read.{nameOf, ReadsBack, asCompare, compareRead, compareNumber, asTopology, topologyRead, topologyNumber, asFront, frontRead, frontNumber, asCull, cullRead, cullNumber, asStencilOp, stencilOpRead, stencilOpNumber, asFactor, factorRead, factorNumber, asOperation, operationRead, operationNumber}
+use Rattle.name_reads.specs.Read.{nameOf, ReadsBack, asCompare, compareRead, compareNumber, asTopology, topologyRead, topologyNumber, asFront, frontRead, frontNumber, asCull}
+use Rattle.name_reads.specs.Read.{cullRead, cullNumber, asStencilOp, stencilOpRead, stencilOpNumber, asFactor, factorRead, factorNumber, asOperation, operationRead, operationNumber}
 
 module _ {A : Type 0} (e : Enumeration A) (g : A → ℕ) where
   -- a name that is read has the number

@@ -1,4 +1,5 @@
--- WebGPU's words for its names (WebGPU, the enumerations GPUCompareFunction, GPUPrimitiveTopology, GPUFrontFace, GPUCullMode, GPUStencilOperation, GPUBlendFactor and GPUBlendOperation), as bytes. Definitions only.
+-- WebGPU's words for its names, as bytes: the enumerations GPUCompareFunction, GPUPrimitiveTopology, GPUFrontFace, GPUCullMode, GPUStencilOperation, GPUBlendFactor and GPUBlendOperation.
+-- Definitions only.
 use Prim.Native.Nat.{ℕ, _-_}
 use Prim.Native.Char.{code}
 use Prim.Native.String.{String, [] as empty, _∷_ as _∷ₛ_}
@@ -15,7 +16,8 @@ use Rattle.names.specs.declared.wgt.CullMode.the-variants.{None, Front, Back}
 use Rattle.names.specs.declared.wgt.StencilOperation.{StencilOperation}
 use Rattle.names.specs.declared.wgt.StencilOperation.the-variants.{Keep, Zero as stencilZero, Replace, Invert, IncrementClamp, DecrementClamp, IncrementWrap, DecrementWrap}
 use Rattle.names.specs.declared.wgt.BlendFactor.{BlendFactor}
-use Rattle.names.specs.declared.wgt.BlendFactor.the-variants.{Zero, One, Src, OneMinusSrc, SrcAlpha, OneMinusSrcAlpha, Dst, OneMinusDst, DstAlpha, OneMinusDstAlpha, SrcAlphaSaturated, Constant, OneMinusConstant, Src1, OneMinusSrc1, Src1Alpha, OneMinusSrc1Alpha}
+use Rattle.names.specs.declared.wgt.BlendFactor.the-variants.{Zero, One, Src, OneMinusSrc, SrcAlpha, OneMinusSrcAlpha, Dst, OneMinusDst, DstAlpha, OneMinusDstAlpha, SrcAlphaSaturated}
+use Rattle.names.specs.declared.wgt.BlendFactor.the-variants.{Constant, OneMinusConstant, Src1, OneMinusSrc1, Src1Alpha, OneMinusSrc1Alpha}
 use Rattle.names.specs.declared.wgt.BlendOperation.{BlendOperation}
 use Rattle.names.specs.declared.wgt.BlendOperation.the-variants.{Add, Subtract, ReverseSubtract, Min, Max}
 use Rattle.name_reads.specs.declared.spelling.Spelling.{Spelling}

@@ -1,7 +1,8 @@
 // OpenGL ES's numbers read back as WebGPU's names (document 02, request 2). Each reader searches the
 // constant table of its map, from the last entry to the first. The contracts cite specs/Read.antt.
 ghost use mathlib.Core.Path.{_≡_};
-ghost use Rattle.name_reads.specs.Read.{compareRead, compareNumber, topologyRead, topologyNumber, frontRead, frontNumber, cullRead, cullNumber, stencilOpRead, stencilOpNumber, factorRead, factorNumber, operationRead, operationNumber};
+ghost use Rattle.name_reads.specs.Read.{compareRead, compareNumber, topologyRead, topologyNumber, frontRead, frontNumber, cullRead, cullNumber, stencilOpRead, stencilOpNumber};
+ghost use Rattle.name_reads.specs.Read.{factorRead, factorNumber, operationRead, operationNumber};
 
 mod place;
 pub mod spelling;

@@ -62,4 +62,24 @@ returns-18 : tie.Need-returns-18
 returns-18 c = sym (ap asFactor (past-end blendFactors (c .before .args .place) (c .match .rest)))
 
 pub factor-at-spec : {M : Type 1} → statement M
-factor-at-spec = tie.close (tie.spec returns returns-2 returns-3 returns-4 returns-5 returns-6 returns-7 returns-8 returns-9 returns-10 returns-11 returns-12 returns-13 returns-14 returns-15 returns-16 returns-17 returns-18)
+factor-at-spec =
+    tie.close
+    (tie.spec
+    returns
+    returns-2
+    returns-3
+    returns-4
+    returns-5
+    returns-6
+    returns-7
+    returns-8
+    returns-9
+    returns-10
+    returns-11
+    returns-12
+    returns-13
+    returns-14
+    returns-15
+    returns-16
+    returns-17
+    returns-18)

@@ -58,4 +58,22 @@ returns-8 : tie.Need-returns-8
 returns-8 c = told (c .before .before .enum-told8 .given .1)
 
 pub spell-stencil-op-spec : {M : Type 1} → statement M
-spell-stencil-op-spec = tie.close (tie.spec enum-told enum-told-2 enum-told-3 enum-told-4 enum-told-5 enum-told-6 enum-told-7 enum-told-8 returns returns-2 returns-3 returns-4 returns-5 returns-6 returns-7 returns-8)
+spell-stencil-op-spec =
+    tie.close
+    (tie.spec
+    enum-told
+    enum-told-2
+    enum-told-3
+    enum-told-4
+    enum-told-5
+    enum-told-6
+    enum-told-7
+    enum-told-8
+    returns
+    returns-2
+    returns-3
+    returns-4
+    returns-5
+    returns-6
+    returns-7
+    returns-8)
