@@ -8,8 +8,9 @@ use native.Mathlib.Nat.{div-lt-iff-lt-mul, mod-lt}
 use lib.ListN.{length, getD, take, set, replicate, length-append}
 use lib.Seq.{getD-take, set-at, ext-getD, length-take-le}
 use Rattle.cheaper.specs.Orders.{from, given, factorial}
-use Rattle.cheaper.specs.Count.{factorial-pos, removed, removed-long, orderAt}
+use Rattle.cheaper.specs.Count.{factorial-pos, removed-long}
 use Rattle.cheaper.specs.Dictionary.{removed-low, removed-high}
+use Rattle.cheaper.specs.Search.{removed, orderAt}
 
 none : {A : Type 0} (n : ℕ) → n < 0 → A
 none n h = absurd (omega arith)

@@ -12,9 +12,10 @@ use lib.Seq.{drop-cons, getD-take, length-take-le, take-all, drop-length}
 use mathlib.Core.Logic.{inl, inr}
 use Rattle.cheaper.specs.Orders.{given, orders, factorial, In}
 use Rattle.cheaper.specs.Budget.{first-order}
-use Rattle.cheaper.specs.Count.{removed, orderAt, orders-long, orders-at}
+use Rattle.cheaper.specs.Count.{orders-long, orders-at}
 use Rattle.cheaper.specs.Prices.{along, total, tried}
 use Rattle.cheaper.specs.Same.{All, all-order}
+use Rattle.cheaper.specs.Search.{removed, orderAt}
 
 -- one step back
 pub total-step : (d : ℕ → ℕ → ℕ) (l : List ℕ) (j : ℕ) → suc j < length l → total d (drop j l) ≡ d (getD l j 0) (getD l (suc j) 0) + total d (drop (suc j) l)

@@ -7,8 +7,8 @@ use lib.ListN.{getD}
 use Rattle.cheaper.specs.Orders.{given, orders, factorial, In}
 use Rattle.cheaper.specs.Prices.{between, total, priceOf, cheapest, tried, chosen}
 use Rattle.cheaper.specs.Budget.{cheapest-in, tried-in}
-use Rattle.cheaper.specs.Answer.{sought}
 use Rattle.cheaper.specs.Same.{all-order, total-same, cheapest-same}
+use Rattle.cheaper.specs.Search.{sought}
 use Rattle.cheaper.proofs.Totals.{all-tried}
 
 module _ (v : ℕ → ℕ → ℕ) (table : List ℕ) (right : (k : ℕ) → k < 64 → getD table k 0 ≡ between v (k / 8) (k % 8)) where

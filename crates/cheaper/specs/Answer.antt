@@ -1,15 +1,14 @@
 -- What is answered: document 02, request 10. Definitions only.
-use Prim.Native.Nat.{ℕ, _+_, _*_, _-_}
+use Prim.Native.Nat.{ℕ, _-_}
 use mathlib.Core.Bool.{cond}
-use mathlib.Core.List.{List, _++_}
+use mathlib.Core.List.{_++_}
 use lib.Dec.{eqb, ltb}
-use lib.ListN.{getD, replicate}
+use lib.ListN.{replicate}
 use Rattle.cheaper.specs.declared.search.Outcome.{Outcome}
 use Rattle.cheaper.specs.declared.search.Outcome.the-variants.{Done, TooManyPieces, NoBudget}
 use Rattle.cheaper.specs.declared.search.Pieces.{Pieces}
 use Rattle.cheaper.specs.declared.search.Cheaper.{Cheaper}
-use Rattle.cheaper.specs.Orders.{given}
-use Rattle.cheaper.specs.Prices.{total, priceOf, floorOf, cheapest, tried, chosen}
+use Rattle.cheaper.specs.Prices.{priceOf, floorOf, chosen}
 use Rattle.cheaper.specs.Board.{valueIn}
 
 -- document 02's number of an answer
@@ -18,10 +17,7 @@ number Done = 0
 number TooManyPieces = 13
 number NoBudget = 14
 
--- the cheapest of so many orders by a table of prices, that between a and b at 8 a + b
-abbrev pub sought : List ℕ → ℕ → ℕ → List ℕ
-sought between n turns = cheapest (total (λ a b. getD between (a * 8 + b) 0)) (given n) (tried n turns)
-
+-- what is answered where no order is returned
 abbrev pub away : Outcome → Cheaper
 away o = record { outcome = o; order = replicate 8 0; price = 0; floor = 0 }
 

@@ -1,4 +1,4 @@
--- Pieces as the code has them, and what is answered: document 02, request 10. Definitions only.
+-- The pieces that are handed in, read as a board of things: document 02, request 10. Definitions only.
 use Prim.Native.Nat.{ℕ, _-_}
 use mathlib.Core.Bool.{cond}
 use mathlib.Core.List.{List, []}

@@ -6,7 +6,7 @@ use lib.ListN.{length, getD, take}
 use Rattle.cheaper.specs.declared.search.Pieces.{Pieces}
 use Rattle.cheaper.specs.declared.search.Cheaper.{Cheaper}
 use Rattle.cheaper.specs.Orders.{Order, given, orders, factorial, Earlier, In}
-use Rattle.cheaper.specs.Prices.{priceOf}
+use Rattle.cheaper.specs.Prices.{priceOf, floorOf}
 use Rattle.cheaper.specs.Board.{valueIn}
 
 -- "beginning with the given one and going on by place numbers in dictionary order": a list of all orders of n pieces, so gone through
@@ -39,6 +39,8 @@ pub record Promised (ps : Pieces) (budget : ℕ) (r : Cheaper) : Type 0 where
   -- "the cheapest seen, the earlier at a tie": of the first `budget` orders in dictionary order
   pub cheapest : (o : List ℕ) → In o (take budget (orders (ps .count))) → r .price ≤ costs ps o
   pub earlier : First (costs ps) (take budget (orders (ps .count))) (returned ps r)
+  -- "a floor: over the eighteen things, the distinct values less one, summed"
+  pub floor-is : r .floor ≡ floorOf (valueIn (ps .pieces)) (ps .count)
   -- "No order costs less than the floor, so price less floor bounds the loss"
   pub floor : (o : List ℕ) → Order (ps .count) o → r .floor ≤ costs ps o
   pub loss : (o : List ℕ) → Order (ps .count) o → r .price - costs ps o ≤ r .price - r .floor

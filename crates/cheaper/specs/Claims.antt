@@ -1,7 +1,7 @@
 -- What document 02, request 10, promises holds of the function's answer: `dictionary`, `promised`, `never-dearer`, `no-pieces`, `too-many`, `no-budget`, `number-is`.
 -- `past-count`: nothing past the count is looked at. Assumes nothing.
 use Prim.Native.Nat.{ℕ, zero, suc, _-_, _≤_, _<_}
-use mathlib.Core.Path.{_≡_, refl, sym, ap, ap₂, _∙_, subst}
+use mathlib.Core.Path.{_≡_, refl, sym, ap, ap₂, _∙_, subst, subst₂}
 use mathlib.Core.Bool.{Bool, true, false, cond}
 use mathlib.Core.List.{List, [], _++_}
 use native.Mathlib.Omega.{arith}
@@ -85,6 +85,7 @@ module _ (ps : Pieces) (h : ps .count ≤ 8) where
         earlier =
             subst (First (costs ps) (take budget (orders n))) (sym e)
             (subst (λ (l : List (List ℕ)). First (costs ps) l (chosen v n budget)) (tried-is n budget p) (cheapest-first (priceOf v) (given n) (tried n budget)));
+        floor-is = refl;
         floor = λ o q. no-order-below v n o q;
         loss = λ o q. bounded (priceOf v (chosen v n budget)) (priceOf v o) (floorOf v n) (no-order-below v n o q);
         least = λ l o q. all-orders v n budget o p (subst (λ (k : ℕ). k ≤ budget) (sym (orders-long n)) l) q;
@@ -102,9 +103,12 @@ module _ (ps : Pieces) (h : ps .count ≤ 8) where
       subst (λ (r : Cheaper). answered ps b .price ≤ r .price) (sym (is-found ps a h p))
       (subst (λ (r : Cheaper). r .price ≤ found ps a .price) (sym (is-found ps b h (omega arith))) (larger-budget v n a b p l))
 
--- r is what `cheaper_order` handed back
+-- r is what `cheaper_order` handed back, and s what it handed back for a larger budget
 pub handed : (ps : Pieces) (budget : ℕ) (r : Cheaper) → r ≡ answered ps budget → ps .count ≤ 8 → 0 < budget → Promised ps budget r
 handed ps budget r e h p = subst (Promised ps budget) (sym e) (promised ps h budget p)
+
+pub handed-dearer : (ps : Pieces) (a b : ℕ) (r s : Cheaper) → r ≡ answered ps a → s ≡ answered ps b → ps .count ≤ 8 → 0 < a → a ≤ b → s .price ≤ r .price
+handed-dearer ps a b r s e f h p l = subst₂ (λ (x y : Cheaper). x .price ≤ y .price) (sym f) (sym e) (never-dearer ps h a b p l)
 
 -- "No pieces give price 0 and floor 0"
 pub no-pieces : (ps : Pieces) (budget : ℕ) → ps .count ≡ 0 → 0 < budget → (answered ps budget .price ≡ 0) × (answered ps budget .floor ≡ 0)

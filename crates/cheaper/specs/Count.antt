@@ -9,23 +9,13 @@ use native.Mathlib.Decide.{decLt}
 use lib.ListN.{length, getD, length-append, length-map, List·getD-append}
 use lib.Seq.{getD-append-add}
 use Rattle.cheaper.specs.Orders.{given, Pick, before, picks, each, arranged, orders, factorial}
+use Rattle.cheaper.specs.Search.{removed, orderAt}
 use Rattle.cheaper.specs.Shuffles.{from-long}
 
 pub factorial-pos : (n : ℕ) → 0 < factorial n
 unfolding factorial
 factorial-pos zero = omega arith
 factorial-pos (suc n) = mul-pos (omega arith) (factorial-pos n)
-
--- the list without its element at place j
-unfoldable pub removed : ℕ → List ℕ → List ℕ
-removed j [] = []
-removed zero (x ∷ xs) = xs
-removed (suc j) (x ∷ xs) = x ∷ removed j xs
-
--- order number i of a list of n elements: the digits of i by factorials say which element goes next
-unfoldable pub orderAt : ℕ → List ℕ → ℕ → List ℕ
-orderAt zero xs i = []
-orderAt (suc n) xs i = getD xs (i / factorial n) 0 ∷ orderAt n (removed (i / factorial n) xs) (i % factorial n)
 
 -- ---- lists of blocks
 abbrev noPick : Pick

@@ -9,7 +9,8 @@ use native.Mathlib.Decide.{decLt}
 use lib.ListN.{length, getD}
 use Rattle.cheaper.specs.Orders.{from, given, orders, factorial, Earlier}
 use Rattle.cheaper.specs.Shuffles.{from-long}
-use Rattle.cheaper.specs.Count.{factorial-pos, removed, removed-long, orderAt, orders-at}
+use Rattle.cheaper.specs.Count.{factorial-pos, removed-long, orders-at}
+use Rattle.cheaper.specs.Search.{removed, orderAt}
 
 abbrev Up : List ℕ → Type 0
 Up xs = (j k : ℕ) → j < k → k < length xs → getD xs j 0 < getD xs k 0

@@ -3,6 +3,7 @@ pub mod Prices
 pub mod Board
 pub mod Answer
 pub mod Claim
+pub mod Search
 pub mod Shuffles
 pub mod Floor
 pub mod Count

@@ -1,11 +1,11 @@
 // Orders by number: the digits of the number by factorials say which place goes next. The contracts
-// cite specs/Count.antt.
+// cite specs/Search.antt.
 ghost use Prim.Native.Nat.{ℕ, _+_, _-_, _≤_, _<_};
 ghost use mathlib.Core.Path.{_≡_};
 ghost use mathlib.Core.List.{_++_};
 ghost use lib.ListN.{take, replicate};
 ghost use Rattle.cheaper.specs.Orders.{given, factorial};
-ghost use Rattle.cheaper.specs.Count.{removed, orderAt};
+ghost use Rattle.cheaper.specs.Search.{removed, orderAt};
 use crate::pieces::MAX_PIECES;
 
 const FACTORIALS: [u32; 9] = [1, 1, 2, 6, 24, 120, 720, 5040, 40320];

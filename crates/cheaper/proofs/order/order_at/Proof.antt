@@ -7,7 +7,8 @@ use lib.ListN.{length, getD, length-set}
 use borrow.Author.Needs.{needs}
 use lib.ListN.{take, replicate}
 use Rattle.cheaper.specs.Orders.{given, factorial}
-use Rattle.cheaper.specs.Count.{orderAt, factorial-pos}
+use Rattle.cheaper.specs.Count.{factorial-pos}
+use Rattle.cheaper.specs.Search.{orderAt}
 use Rattle.cheaper.proofs.Digits.{digit-low, rest-low, all-given, turn}
 use Rattle.cheaper.proofs.order.order_at.Statement.{statement}
 use Rattle.cheaper.proofs.order.order_at.Tie as tie

@@ -12,9 +12,10 @@ use Rattle.cheaper.specs.Orders.{factorial}
 use Rattle.cheaper.specs.Count.{factorial-pos}
 use Rattle.cheaper.specs.Prices.{between, total, chosen}
 use Rattle.cheaper.specs.Board.{valueIn}
-use Rattle.cheaper.specs.Answer.{sought, answered}
+use Rattle.cheaper.specs.Answer.{answered}
 use Rattle.cheaper.specs.declared.search.Cheaper.{Cheaper}
 use Rattle.cheaper.specs.declared.search.Outcome.the-variants.{Done}
+use Rattle.cheaper.specs.Search.{sought}
 use Rattle.cheaper.proofs.Whole.{same-price, same-choice, chosen-in}
 use Rattle.cheaper.proofs.search.cheaper_order.Statement.{statement}
 use Rattle.cheaper.proofs.search.cheaper_order.Tie as tie

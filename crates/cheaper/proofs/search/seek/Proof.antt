@@ -10,10 +10,10 @@ use borrow.Author.Needs.{needs}
 use lib.Dec.{ltb}
 use lib.ListN.{take, drop, replicate}
 use Rattle.cheaper.specs.Orders.{given, orders}
-use Rattle.cheaper.specs.Count.{orderAt, factorial-pos}
+use Rattle.cheaper.specs.Count.{factorial-pos}
 use Rattle.cheaper.specs.Prices.{total, cheapest}
-use Rattle.cheaper.specs.Answer.{sought}
 use Rattle.cheaper.specs.declared.search.Tried.{Tried}
+use Rattle.cheaper.specs.Search.{orderAt, sought}
 use Rattle.cheaper.proofs.Totals.{left-begins, left-none, first-is}
 use Rattle.cheaper.proofs.search.seek.Statement.{statement}
 use Rattle.cheaper.proofs.search.seek.Tie as tie

@@ -7,8 +7,8 @@ use borrow.Author.Needs.{needs}
 use lib.ListN.{take, replicate}
 use lib.Seq.{take-at}
 use Rattle.cheaper.specs.Orders.{given}
-use Rattle.cheaper.specs.Count.{orderAt}
 use Rattle.cheaper.specs.Prices.{total}
+use Rattle.cheaper.specs.Search.{orderAt}
 use Rattle.cheaper.proofs.Totals.{padded-low, order-long}
 use Rattle.cheaper.proofs.search.tried_at.Statement.{statement}
 use Rattle.cheaper.proofs.search.tried_at.Tie as tie
