@@ -10,6 +10,7 @@ use Rattle.names.specs.declared.wgt.CullMode.the-variants.{None, Back}
 use Rattle.names.specs.declared.wgt.StencilOperation.the-variants.{Keep, Zero as stencilZero, IncrementWrap}
 use Rattle.names.specs.declared.wgt.BlendFactor.the-variants.{Zero, One, Src1}
 use Rattle.names.specs.declared.wgt.BlendOperation.the-variants.{Max}
+use Rattle.names.specs.Ascii.{ascii}
 use Rattle.names.specs.Order.{frontFaces}
 use Rattle.names.specs.Gl.{CW, CCW, EQUAL, KEEP, INCR-WRAP, SRC1-COLOR, MAX}
 use Rattle.name_reads.specs.declared.CompareRead.the-variants.{Name as compareName, Unknown as compareUnknown}
@@ -22,7 +23,7 @@ use Rattle.name_reads.specs.declared.OperationRead.the-variants.{Name as
 use Rattle.name_reads.specs.declared.word.Map.the-variants.{CompareFunc, BlendFactor}
 use Rattle.name_reads.specs.Read.{nameOf, compareRead, topologyRead, frontRead, cullRead, stencilOpRead, factorRead, operationRead}
 use Rattle.name_reads.specs.Read.{compareNumber, topologyNumber, frontNumber, cullNumber, stencilOpNumber, factorNumber, operationNumber}
-use Rattle.name_reads.specs.Spelling.{ascii, spelled}
+use Rattle.name_reads.specs.Spelling.{spelled}
 use Rattle.name_reads.specs.Word.{wordRead}
 
 -- the map turns front faces, so GL's CW reads `Ccw`

@@ -1,9 +1,7 @@
 -- WebGPU's words for its names, as bytes: the enumerations GPUCompareFunction, GPUPrimitiveTopology, GPUFrontFace, GPUCullMode, GPUStencilOperation, GPUBlendFactor and GPUBlendOperation.
 -- Definitions only.
 use Prim.Native.Nat.{ℕ, _-_}
-use Prim.Native.Char.{code}
-use Prim.Native.String.{String, [] as empty, _∷_ as _∷ₛ_}
-use mathlib.Core.List.{List, [], _∷_, _++_}
+use mathlib.Core.List.{List, _++_}
 use lib.ListN.{length, replicate}
 use Rattle.names.specs.declared.wgt.CompareFunction.{CompareFunction}
 use Rattle.names.specs.declared.wgt.CompareFunction.the-variants.{Never, Less, Equal, LessEqual, Greater, NotEqual, GreaterEqual, Always}
@@ -20,12 +18,8 @@ use Rattle.names.specs.declared.wgt.BlendFactor.the-variants.{Zero, One, Src, O
 use Rattle.names.specs.declared.wgt.BlendFactor.the-variants.{Constant, OneMinusConstant, Src1, OneMinusSrc1, Src1Alpha, OneMinusSrc1Alpha}
 use Rattle.names.specs.declared.wgt.BlendOperation.{BlendOperation}
 use Rattle.names.specs.declared.wgt.BlendOperation.the-variants.{Add, Subtract, ReverseSubtract, Min, Max}
+use Rattle.names.specs.Ascii.{ascii}
 use Rattle.name_reads.specs.declared.spelling.Spelling.{Spelling}
-
--- a text's bytes
-abbrev pub ascii : String → List ℕ
-ascii empty = []
-ascii (c ∷ₛ s) = code c ∷ ascii s
 
 -- a word in twenty bytes, blanks after it, and its length; the longest word has twenty
 abbrev pub spelled : List ℕ → Spelling

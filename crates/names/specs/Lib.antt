@@ -4,3 +4,4 @@ pub mod Maps
 pub mod Start
 pub mod Table
 pub mod Different
+pub mod Ascii

@@ -13,7 +13,8 @@ use Rattle.records.specs.Start.{startState}
 use Rattle.records.specs.declared.command.Command.{Command}
 use Rattle.slots.specs.Prepare.{bufferCommands, attributeCommands, sentOf}
 use Rattle.pass.specs.Render.{beginRenderCommands, attachColors, resolvesFrom, invalidations, clearColors}
-use Rattle.text.specs.Digits.{ascii, decimalIn, hexIn}
+use Rattle.names.specs.Ascii.{ascii}
+use Rattle.text.specs.Digits.{decimalIn, hexIn}
 use Rattle.text.specs.Field.{spaced}
 use Rattle.text.specs.Command.{lineOf}
 use Rattle.calls.specs.Call.{Call, set-vertex-buffer, draw}

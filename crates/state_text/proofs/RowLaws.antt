@@ -28,7 +28,7 @@ use Rattle.text.specs.declared.field.Shown.{Shown}
 use Rattle.state_text.specs.declared.rows.Told.{Told}
 use Rattle.text.specs.declared.field.Word.the-variants.{State as stateWord}
 use Rattle.state_text.specs.declared.state.Place.{Place}
-use Rattle.text.specs.Digits.{ascii}
+use Rattle.names.specs.Ascii.{ascii}
 use Rattle.text.specs.Field.{wordText, spaced}
 use Rattle.text.specs.Command.{blendFields}
 use Rattle.text.specs.Shown.{nameAt, listOf, padded, built}

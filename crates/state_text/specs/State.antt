@@ -26,7 +26,7 @@ use Rattle.records.specs.declared.state.State.{State}
 use Rattle.text.specs.declared.field.Field.{Field}
 use Rattle.text.specs.declared.field.Field.the-variants.{Number, Long, Signed, Flag, Bits, Optional, Absent, Text}
 use Rattle.text.specs.declared.field.Word.the-variants.{DirtyMask}
-use Rattle.text.specs.Digits.{ascii}
+use Rattle.names.specs.Ascii.{ascii}
 use Rattle.text.specs.Field.{spaced}
 use Rattle.text.specs.Command.{formatFields, blendFields}
 

@@ -14,7 +14,8 @@ use Rattle.records.specs.declared.command.OptionBlend.the-variants.{Some as som
 use Rattle.records.specs.declared.command.VertexAttribKind.the-variants.{Integer}
 use Rattle.records.specs.declared.state.IndexFormat.the-variants.{Uint16, Uint32}
 use Rattle.records.specs.declared.state.State.{State}
-use Rattle.text.specs.Digits.{ascii, decimalIn, hexIn}
+use Rattle.names.specs.Ascii.{ascii}
+use Rattle.text.specs.Digits.{decimalIn, hexIn}
 use Rattle.text.specs.Field.{spaced}
 use Rattle.state_text.specs.State.{lineAt, linesTo, stateLine, stateText}
 

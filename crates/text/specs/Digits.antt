@@ -1,16 +1,9 @@
--- Texts and numbers as bytes, which are ASCII codes: the words of a line, tools/oracle/README.md, 'Fields'. Definitions only.
+-- Numbers as bytes, which are ASCII codes: the words of a line, tools/oracle/README.md, 'Fields'. Definitions only.
 use Prim.Native.Nat.{ℕ, zero, suc, _+_, _/_, _%_}
-use Prim.Native.Char.{code}
-use Prim.Native.String.{String, [] as empty, _∷_ as _∷ₛ_}
 use mathlib.Core.Bool.{cond}
 use mathlib.Core.List.{List, [], _∷_, _++_}
 use lib.Dec.{ltb}
 use lib.IntN.{ℤ, pos, negsuc}
-
--- a text's bytes
-abbrev pub ascii : String → List ℕ
-ascii empty = []
-ascii (c ∷ₛ s) = code c ∷ ascii s
 
 -- the digits of n to the base ten: the last is n % 10, and before it stand those of n / 10, where that is not 0. At most k + 1 of them
 unfoldable pub decimalIn : ℕ → ℕ → List ℕ

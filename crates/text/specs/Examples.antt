@@ -17,7 +17,8 @@ use Rattle.records.specs.declared.command.SampleKind.the-variants.{Float as sam
 use Rattle.records.specs.declared.command.TextureInner.the-variants.{Renderbuffer, Texture}
 use Rattle.records.specs.declared.command.Command.{Command}
 use Rattle.records.specs.declared.command.Command.the-variants.{DrawIndexed, ClearBuffer, CopyBufferToBuffer, CopyQueryResults, BindAttachment, ResolveAttachment, ClearColorF, ClearColorI, SetViewport, SetDepthBias, SetVertexAttribute, SetVertexBuffer, SetColorTarget, BindImage, SetImmediates}
-use Rattle.text.specs.Digits.{ascii, decimalIn, hexIn}
+use Rattle.names.specs.Ascii.{ascii}
+use Rattle.text.specs.Digits.{decimalIn, hexIn}
 use Rattle.text.specs.Field.{spaced}
 use Rattle.text.specs.Command.{lineOf}
 

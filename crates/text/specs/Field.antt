@@ -10,7 +10,8 @@ use Rattle.text.specs.declared.field.Field.{Field}
 use Rattle.text.specs.declared.field.Field.the-variants.{Number, Long, Signed, Flag, Float, Bits, Optional, Buffer, Absent, Text}
 use Rattle.text.specs.declared.field.Word.{Word}
 use Rattle.text.specs.declared.field.Word.the-variants.{DirtyMask, State}
-use Rattle.text.specs.Digits.{ascii, decimal, hex, signed, dash}
+use Rattle.names.specs.Ascii.{ascii}
+use Rattle.text.specs.Digits.{decimal, hex, signed, dash}
 
 -- a flag: 0 or 1
 abbrev pub flagByte : Bool → ℕ

@@ -10,7 +10,7 @@ use Rattle.text.specs.declared.field.Field.{Field}
 use Rattle.text.specs.declared.field.Field.the-variants.{Absent}
 use Rattle.text.specs.declared.field.Item.{Item}
 use Rattle.text.specs.declared.field.Shown.{Shown}
-use Rattle.text.specs.Digits.{ascii}
+use Rattle.names.specs.Ascii.{ascii}
 use Rattle.text.specs.Command.{fieldsOf}
 
 -- the names in the commands' order, those of the state's rows, and two words, each after a blank
