@@ -41,7 +41,7 @@ fn bad_mask(m: u32) -> bool
     65536 <= m
 }
 
-fn bad_attribute(a: AttributeDesc) -> bool
+pub fn bad_attribute(a: AttributeDesc) -> bool
     ensures { λ r. ⌜ r ≡ badAttribute a ⌝ }
 {
     (16 <= a.location) | (16 <= a.buffer_index)
@@ -136,7 +136,7 @@ fn scan_vertex(vertex: VertexState) -> AttributeScan
     scan_attributes(attributes, vertex.attribute_count)
 }
 
-fn bad_descriptor(d: ImmediateDesc) -> bool
+pub fn bad_descriptor(d: ImmediateDesc) -> bool
     ensures { λ r. ⌜ r ≡ badDescriptor d ⌝ }
 {
     let end = (d.offset as u64) + (d.size_bytes as u64);
