@@ -1,1 +1,4 @@
 pub mod Class
+pub mod Shots
+pub mod Limits
+pub mod Survey

@@ -1,3 +1,4 @@
-// What who looks at a list sees of it: the class of each command, and how many draws there are.
+// What who looks at a list sees of it: the class of each command, which limits it breaks, and how
+// many draws there are.
 pub mod class;
-pub mod draws;
+pub mod limits;

@@ -1,0 +1,4 @@
+pub mod Alike
+pub mod Compared
+pub mod Settings
+pub mod Side
