@@ -2,11 +2,11 @@
 -- Assumes nothing.
 use mathlib.Core.Path.{_≡_, _∙_, ap, sym}
 use mathlib.Core.List.{List, [], _∷_, _++_}
-use Prim.Native.Nat.{ℕ, min, suc, _+_, _-_, _<_, _≤_}
+use Prim.Native.Nat.{ℕ, suc, _+_, _-_, _<_, _≤_}
 use native.Mathlib.Nat.{sub-zero, add-zero, add-suc, suc-add}
 use native.Mathlib.Omega.{arith}
-use lib.ListN.{length-take, take-append-drop, length, take, drop, getD, length-drop}
-use lib.Seq.{take-append-seam, take-suc, getD-drop, length-take-le}
+use lib.ListN.{length, take, drop, getD, length-drop}
+use lib.Seq.{take-suc, getD-drop, length-take-le}
 use Rattle.list_walks.specs.Fold.{foldAt, part}
 
 module _ {A : Type 0} {X : Type 0} (f : A → ℕ → X → A) where
@@ -29,11 +29,9 @@ module _ {X : Type 0} (l : List X) (from : ℕ) where
   pub part-none : part l from from ≡ []
   part-none = let none : from - from ≡ 0 = omega arith in ap (λ (m : ℕ). take m (drop from l)) none
 
--- from the start, and past the end at most to it
-pub part-first : {X : Type 0} (l : List X) (n : ℕ) → part l 0 (min n (length l)) ≡ take n l
-part-first l n =
-    ap (λ (m : ℕ). take m l) (sub-zero (min n (length l)) ∙ sym (length-take n l))
-    ∙ ap (take (length (take n l))) (sym (take-append-drop n l)) ∙ take-append-seam (take n l) (drop n l)
+-- from the start
+pub part-first : {X : Type 0} (l : List X) (n : ℕ) → part l 0 n ≡ take n l
+part-first l n = ap (λ (m : ℕ). take m l) (sub-zero n)
 
 module _ {A : Type 0} {X : Type 0} (f : A → ℕ → X → A) (a : A) (l : List X) (from : ℕ) where
   pub folded-none : foldAt f a from (part l from from) ≡ a
