@@ -1,3 +1,5 @@
 pub mod Data
-pub mod Counting
 pub mod Kept
+pub mod Tags
+pub mod Judged
+pub mod Surveying

@@ -1,25 +1,23 @@
+-- `lists::limits::immediate_breaks` meets its contract. Assumes nothing.
+use mathlib.Core.Path.{ap}
+use mathlib.Core.Bool.{Bool, false}
+use Prim.Native.Nat.{_+_}
+use lib.Dec.{ltb}
 use borrow.Author.Needs.{needs}
 use Rattle.lists.proofs.limits.immediate_breaks.Statement.{statement}
 use Rattle.lists.proofs.limits.immediate_breaks.Tie as tie
-use Rattle.lists.proofs.limits.immediate_breaks.Reads as reads
-use Rattle.lists.proofs.limits.immediate_breaks.Lts as lts
-use Rattle.records.proofs.check.bad_descriptor.Reads as bad-descriptor-reads
 
--- src/limits.rt:133:34
 cast-end : tie.Need-cast-end
 cast-end c = search needs
 
--- src/limits.rt:133:15
 add-end : tie.Need-add-end
 add-end c = search needs
 
--- src/limits.rt:136:16
 bad-descriptor-requires : tie.Need-bad-descriptor-requires
 bad-descriptor-requires c κs = search needs
 
--- src/limits.rt:130:1
 returns : tie.Need-returns
-returns c = ?
+returns c = ap (λ (b : Bool). record { many = false; range = b; room = ltb (c .before .before .args .used .bytes) (c .before .before .args .offset + c .before .before .args .d .«size_bytes») }) (c .bad-descriptor .ensures)
 
 pub immediate-breaks-spec : {M : Type 1} → statement M
 immediate-breaks-spec = tie.close (tie.spec cast-end add-end bad-descriptor-requires returns)

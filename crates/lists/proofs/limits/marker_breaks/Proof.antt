@@ -1,26 +1,23 @@
+-- `lists::limits::marker_breaks` meets its contract. Assumes nothing.
+use mathlib.Core.Path.{_∙_, ap}
+use mathlib.Core.Bool.{Bool, _||_}
+use lib.Dec.{ltb}
+use Rattle.lists.specs.Limits.{beyondRun}
 use borrow.Author.Needs.{needs}
 use Rattle.lists.proofs.limits.marker_breaks.Statement.{statement}
 use Rattle.lists.proofs.limits.marker_breaks.Tie as tie
-use Rattle.lists.proofs.limits.marker_breaks.Reads as reads
-use Rattle.lists.proofs.limits.marker_breaks.Lts as lts
-use Rattle.lists.proofs.limits.beyond_run.Reads as beyond-run-reads
-use Rattle.lists.proofs.limits.reversed.Reads as reversed-reads
 
--- src/limits.rt:127:16
 reversed-requires : tie.Need-reversed-requires
 reversed-requires c κs = search needs
 
--- src/limits.rt:127:49
 cast-beyond-run : tie.Need-cast-beyond-run
 cast-beyond-run c = search needs
 
--- src/limits.rt:127:5
 beyond-run-requires : tie.Need-beyond-run-requires
 beyond-run-requires c κs = search needs
 
--- src/limits.rt:124:1
 returns : tie.Need-returns
-returns c = ?
+returns c = c .beyond-run .ensures ∙ ap (λ (b : Bool). beyondRun (b || ltb (c .before .before .before .before .args .used .bytes) (c .before .before .before .before .args .range .end))) (c .before .before .before .reversed .ensures)
 
 pub marker-breaks-spec : {M : Type 1} → statement M
 marker-breaks-spec =

@@ -1,40 +1,40 @@
+-- `lists::limits::survey_record` meets its contract. Assumes nothing.
+use mathlib.Core.Path.{_∙_, ap, ap₂, sym}
+use mathlib.Core.Bool.{Bool, cond}
+use Prim.Native.Nat.{ℕ, _+_}
+use Rattle.lists.specs.declared.limits.Breaks.{Breaks}
+use Rattle.lists.specs.Class.{draws}
+use Rattle.lists.specs.Limits.{eitherBreaks}
 use borrow.Author.Needs.{needs}
 use Rattle.lists.proofs.limits.survey_record.Statement.{statement}
 use Rattle.lists.proofs.limits.survey_record.Tie as tie
-use Rattle.lists.proofs.limits.survey_record.Reads as reads
-use Rattle.lists.proofs.limits.survey_record.Lts as lts
-use Rattle.lists.proofs.class.class_of.Reads as class-of-reads
-use Rattle.lists.proofs.class.is_draw.Reads as is-draw-reads
-use Rattle.lists.proofs.limits.breaks_of.Reads as breaks-of-reads
-use Rattle.lists.proofs.limits.either.Reads as either-reads
 
--- src/limits.rt:219:9
 breaks-of-requires : tie.Need-breaks-of-requires
 breaks-of-requires c κs = search needs
 
--- src/limits.rt:220:9
 either-requires : tie.Need-either-requires
 either-requires c κs = search needs
 
--- src/limits.rt:221:9
 class-of-requires : tie.Need-class-of-requires
 class-of-requires c κs = search needs
 
--- src/limits.rt:222:20
 is-draw-requires : tie.Need-is-draw-requires
 is-draw-requires c κs = search needs
 
--- src/limits.rt:222:37
 add-draws : tie.Need-add-draws
 add-draws c = search needs
 
--- src/limits.rt:212:1
 returns : tie.Need-returns
-returns c = ?
+returns c =
+    ap₂ (λ (b : Breaks) (n : ℕ). record { used = c .before .before .before .before .before .before .before .before .args .s .used; breaks = b; draws = n })
+    (c .before .before .before .before .either .ensures ∙ ap (eitherBreaks (c .before .before .before .before .before .before .before .before .args .s .breaks)) (c .before .before .before .before .before .breaks-of .ensures))
+    (ap (λ (b : Bool). cond b (c .before .before .before .before .before .before .before .before .args .s .draws + 1) (c .before .before .before .before .before .before .before .before .args .s .draws)) (sym (c .before .if1 .taken) ∙ c .before .before .is-draw .ensures ∙ ap draws (c .before .before .before .class-of .ensures)))
 
--- src/limits.rt:212:1
 returns-2 : tie.Need-returns-2
-returns-2 c = ?
+returns-2 c =
+    ap₂ (λ (b : Breaks) (n : ℕ). record { used = c .before .before .before .before .before .before .before .args .s .used; breaks = b; draws = n })
+    (c .before .before .before .either .ensures ∙ ap (eitherBreaks (c .before .before .before .before .before .before .before .args .s .breaks)) (c .before .before .before .before .breaks-of .ensures))
+    (ap (λ (b : Bool). cond b (c .before .before .before .before .before .before .before .args .s .draws + 1) (c .before .before .before .before .before .before .before .args .s .draws)) (sym (c .if1 .left) ∙ c .before .is-draw .ensures ∙ ap draws (c .before .before .class-of .ensures)))
 
 pub survey-record-spec : {M : Type 1} → statement M
 survey-record-spec =
