@@ -1,0 +1,11 @@
+pub mod Shapes
+pub mod Good
+pub mod Told
+pub mod PassCalls
+pub mod PipelineCalls
+pub mod BindingCalls
+pub mod DrawCalls
+pub mod TransferCalls
+pub mod Commands
+pub mod Growth
+pub mod Fits
