@@ -74,7 +74,7 @@ abbrev pub moved : Both → Record → Record → Both
 moved m x y =
     cond (hasMore (m .a) && not (isDraw x)) (withA (advanced (m .a) x) m)
     (cond (hasMore (m .b) && not (isDraw y)) (withB (advanced (m .b) y) m)
-    (cond (hasMore (m .a) && hasMore (m .b)) (atDraws m x y) (told (m .answer) m)))
+    (cond (hasMore (m .a) && hasMore (m .b)) (atDraws m x y) (told Equal m)))
 
 abbrev pub turnOf : Both → Record → Record → Both
 turnOf m x y = cond (m .known) m (moved m x y)

@@ -3,7 +3,9 @@ ghost use mathlib.Core.Path.{_≡_};
 ghost use Prim.Native.Nat.{ℕ, _+_};
 ghost use Rattle.boards.specs.declared.alike.OptionSource.the-variants.{Some as someSource};
 ghost use lib.Dec.{eqb};
-ghost use Rattle.machine.specs.Found.{slotSource, fetchAt};
+ghost use mathlib.Core.Option.{none};
+ghost use Rattle.records.specs.declared.command.OptionU32.the-variants.{Some};
+ghost use Rattle.machine.specs.Found.{slotSource, sourceOf, fetchAt};
 ghost use Rattle.boards.specs.Alike.{sameNumber, sameColor, sameStep, sameKind, formatsAlike, sourcesAlike, locationAlike, allBelow, alike as alikeOf};
 ghost use Rattle.boards.specs.Settings.{attributeIn, bufferIn, bufferOf, verticesOf, glOf, sourceIs, attributeSource, fetchIn};
 use crate::settings::Attribute;
@@ -13,6 +15,7 @@ use crate::settings::Settings;
 use records::command::ColorF32;
 use records::command::OptionU32;
 use records::command::VertexAttribKind;
+use records::command::VertexBufferDesc;
 use records::command::VertexFormatDesc;
 use records::command::VertexStepMode;
 use records::limits::MAX_VERTEX_ATTRIBUTES;
@@ -157,15 +160,32 @@ fn slot_source(offset: u32, slot: OptionVertexBuffer) -> OptionSource
         OptionVertexBuffer::Some(b) => {
             let binding = b.buffer;
             let desc = b.buffer_desc;
-            OptionSource::Some(Source {
+            let step = desc.step;
+            let source = Source {
                 buffer: binding.raw,
                 stride: desc.stride,
-                step: desc.step,
+                step,
                 offset,
                 base: binding.offset,
-            })
+            };
+            OptionSource::Some(source)
         }
     }
+}
+
+// With a buffer of its own the attribute gives all.
+fn own_source(raw: u32, desc: VertexBufferDesc, offset: u32) -> OptionSource
+    ensures { λ r. ⌜ sourceIs r ≡ sourceOf (Some raw) desc offset none ⌝ }
+{
+    let step = desc.step;
+    let source = Source {
+        buffer: raw,
+        stride: desc.stride,
+        step,
+        offset,
+        base: 0,
+    };
+    OptionSource::Some(source)
 }
 
 fn source_of(s: Settings, a: Attribute) -> OptionSource
@@ -173,15 +193,10 @@ fn source_of(s: Settings, a: Attribute) -> OptionSource
 {
     let desc = a.buffer_desc;
     let at = a.attribute_desc;
-    match a.buffer {
+    let buffer = a.buffer;
+    match buffer {
         OptionU32::None => slot_source(at.offset, buffer_at(s, at.buffer_index)),
-        OptionU32::Some(raw) => OptionSource::Some(Source {
-            buffer: raw,
-            stride: desc.stride,
-            step: desc.step,
-            offset: at.offset,
-            base: 0,
-        }),
+        OptionU32::Some(raw) => own_source(raw, desc, at.offset),
     }
 }
 

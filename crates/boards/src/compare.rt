@@ -4,7 +4,7 @@ ghost use lib.ListN.{getD};
 ghost use Rattle.lists.specs.Limits.{handed};
 ghost use Rattle.boards.specs.Alike.{sameNumber};
 ghost use Rattle.boards.specs.Compared.{number, compared};
-ghost use Rattle.boards.specs.Side.{noRecord, firstAnswer, isRefusal, turnsOf, firstSide, startOf, hasMore, advanced, oneMore, atDraws, turnOf};
+ghost use Rattle.boards.specs.Side.{noRecord, firstAnswer, isRefusal, turnsOf, firstSide, startOf, hasMore, advanced, oneMore, withA, withB, told, atDraws, turnOf};
 use crate::alike::alike;
 use crate::settings::Settings;
 use crate::settings::place;
@@ -196,6 +196,16 @@ fn one_more(draws: usize) -> usize
     }
 }
 
+// The answer is known.
+fn tell(m: Both, answer: Compared) -> Both
+    ensures { λ r. ⌜ r ≡ told answer m ⌝ }
+{
+    let mut next = m;
+    next.known = true;
+    next.answer = answer;
+    next
+}
+
 // Both sides are at a draw.
 fn compare_draws(m: Both, x: Record, y: Record) -> Both
     ensures { λ r. ⌜ r ≡ atDraws m x y ⌝ }
@@ -204,15 +214,37 @@ fn compare_draws(m: Both, x: Record, y: Record) -> Both
     let b = m.b;
     let s = a.settings;
     let t = b.settings;
-    let mut next = m;
     if alike(s, t) {
-        next.a = advance(a, x);
-        next.b = advance(b, y);
-        next.draws = one_more(m.draws);
-    } else {
-        next.known = true;
-        next.answer = Compared::Differs(m.draws);
+        let after_a = advance(a, x);
+        let after_b = advance(b, y);
+        let draws = one_more(m.draws);
+        let mut next = m;
+        next.a = after_a;
+        next.b = after_b;
+        next.draws = draws;
+        return next;
     }
+    let answer = Compared::Differs(m.draws);
+    tell(m, answer)
+}
+
+fn go_on_a(m: Both, x: Record) -> Both
+    ensures { λ r. ⌜ r ≡ withA (advanced (m .a) x) m ⌝ }
+{
+    let side = m.a;
+    let after = advance(side, x);
+    let mut next = m;
+    next.a = after;
+    next
+}
+
+fn go_on_b(m: Both, y: Record) -> Both
+    ensures { λ r. ⌜ r ≡ withB (advanced (m .b) y) m ⌝ }
+{
+    let side = m.b;
+    let after = advance(side, y);
+    let mut next = m;
+    next.b = after;
     next
 }
 
@@ -228,20 +260,21 @@ fn turn(m: Both, x: Record, y: Record) -> Both
     let b = m.b;
     let c = x.command;
     let d = y.command;
-    let mut next = m;
-    if has_more(a) & !is_draw(class_of(c)) {
-        next.a = advance(a, x);
-        return next;
+    let more_a = has_more(a);
+    let more_b = has_more(b);
+    let class_a = class_of(c);
+    let class_b = class_of(d);
+    if more_a & !is_draw(class_a) {
+        return go_on_a(m, x);
     }
-    if has_more(b) & !is_draw(class_of(d)) {
-        next.b = advance(b, y);
-        return next;
+    if more_b & !is_draw(class_b) {
+        return go_on_b(m, y);
     }
-    if has_more(a) & has_more(b) {
+    if more_a & more_b {
         return compare_draws(m, x, y);
     }
-    next.known = true;
-    next
+    let answer = Compared::Equal;
+    tell(m, answer)
 }
 
 fn answer_of(m: Both) -> Compared

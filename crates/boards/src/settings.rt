@@ -151,8 +151,9 @@ pub fn place(s: Settings, command: Command) -> Settings
             place_buffer(s, index, held)
         }
         Command::SetProgram(program) => {
+            let held = OptionU32::Some(program);
             let mut next = s;
-            next.program = OptionU32::Some(program);
+            next.program = held;
             next
         }
         Command::SetBlendConstant(blend) => {
