@@ -200,10 +200,15 @@ fn one_more(draws: usize) -> usize
 fn tell(m: Both, answer: Compared) -> Both
     ensures { λ r. ⌜ r ≡ told answer m ⌝ }
 {
-    let mut next = m;
-    next.known = true;
-    next.answer = answer;
-    next
+    let a = m.a;
+    let b = m.b;
+    Both {
+        a,
+        b,
+        draws: m.draws,
+        known: true,
+        answer,
+    }
 }
 
 // Both sides are at a draw.

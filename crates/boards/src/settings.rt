@@ -1,7 +1,8 @@
 // The settings that a comparison looks at: the machine's (machine/specs/Machine.antt), as far as a
 // list within document 01's limits can set them.
 ghost use mathlib.Core.Path.{_≡_};
-ghost use Rattle.boards.specs.Settings.{noAttribute, noBuffer, freshSettings, placeAttribute, placeBuffer, placed};
+ghost use Rattle.boards.specs.Settings.{noAttribute, noBuffer, freshSettings, placeAttribute, placeBuffer, placeProgram, placeBlend, placed};
+ghost use Rattle.records.specs.declared.command.Command.the-variants.{SetVertexAttribute, SetVertexBuffer};
 use records::command::AttributeDesc;
 use records::command::BufferBinding;
 use records::command::ColorF32;
@@ -115,6 +116,64 @@ fn place_buffer(s: Settings, slot: u32, held: Slot) -> Settings
     next
 }
 
+fn set_attribute(
+    s: Settings,
+    buffer: OptionU32,
+    buffer_desc: VertexBufferDesc,
+    attribute_desc: AttributeDesc,
+) -> Settings
+    ensures { λ r. ⌜ r ≡ placed s (SetVertexAttribute buffer «buffer_desc» «attribute_desc») ⌝ }
+{
+    let a = Attribute {
+        buffer,
+        buffer_desc,
+        attribute_desc,
+    };
+    let attribute = OptionAttribute::Some(a);
+    let held = Location { attribute };
+    place_attribute(s, attribute_desc.location, held)
+}
+
+fn set_buffer(
+    s: Settings,
+    index: u32,
+    buffer: BufferBinding,
+    buffer_desc: VertexBufferDesc,
+) -> Settings
+    ensures { λ r. ⌜ r ≡ placed s (SetVertexBuffer index buffer «buffer_desc») ⌝ }
+{
+    let b = VertexBuffer {
+        buffer,
+        buffer_desc,
+    };
+    let bound = OptionVertexBuffer::Some(b);
+    let held = Slot { buffer: bound };
+    place_buffer(s, index, held)
+}
+
+fn place_program(s: Settings, program: u32) -> Settings
+    ensures { λ r. ⌜ r ≡ placeProgram s program ⌝ }
+{
+    let locations = s.locations;
+    let slots = s.slots;
+    let blend = s.blend;
+    let held = OptionU32::Some(program);
+    Settings {
+        locations,
+        slots,
+        program: held,
+        blend,
+    }
+}
+
+fn place_blend(s: Settings, blend: ColorF32) -> Settings
+    ensures { λ r. ⌜ r ≡ placeBlend s blend ⌝ }
+{
+    let mut next = s;
+    next.blend = blend;
+    next
+}
+
 // The settings after a command.
 pub fn place(s: Settings, command: Command) -> Settings
     ensures { λ r. ⌜ r ≡ placed s command ⌝ }
@@ -124,43 +183,15 @@ pub fn place(s: Settings, command: Command) -> Settings
             buffer,
             buffer_desc,
             attribute_desc,
-        } => {
-            let a = Attribute {
-                buffer,
-                buffer_desc,
-                attribute_desc,
-            };
-            let held = Location {
-                attribute: OptionAttribute::Some(a),
-            };
-            place_attribute(s, attribute_desc.location, held)
-        }
-        Command::UnsetVertexAttribute(location) => { place_attribute(s, location, Location::new()) }
+        } => set_attribute(s, buffer, buffer_desc, attribute_desc),
+        Command::UnsetVertexAttribute(location) => place_attribute(s, location, Location::new()),
         Command::SetVertexBuffer {
             index,
             buffer,
             buffer_desc,
-        } => {
-            let b = VertexBuffer {
-                buffer,
-                buffer_desc,
-            };
-            let held = Slot {
-                buffer: OptionVertexBuffer::Some(b),
-            };
-            place_buffer(s, index, held)
-        }
-        Command::SetProgram(program) => {
-            let held = OptionU32::Some(program);
-            let mut next = s;
-            next.program = held;
-            next
-        }
-        Command::SetBlendConstant(blend) => {
-            let mut next = s;
-            next.blend = blend;
-            next
-        }
+        } => set_buffer(s, index, buffer, buffer_desc),
+        Command::SetProgram(program) => place_program(s, program),
+        Command::SetBlendConstant(blend) => place_blend(s, blend),
         _ => s,
     }
 }

@@ -194,9 +194,19 @@ passes-accepted false = refl
 
 passes-ready : Premises (board true false) empty (allAccepted passes)
 unfolding Premises
-passes-ready =
-    ((λ e. tt), ((λ e. tt), ((λ e. tt), ((λ e st. record { pipeline = pipeline; is = refl; bound = bound _ _ }),
-    ((λ e. tt), ((λ e. tt), ((λ e. tt), ((λ e. tt), ((λ e st. record { pipeline = pipeline; is = refl; bound = bound _ _ }), tt)))))))))
+passes-ready = (
+  (λ e. tt),
+  (
+    (λ e. tt),
+    (
+      (λ e. tt),
+      (
+        (λ e st. record { pipeline = pipeline; is = refl; bound = bound _ _ }),
+        ((λ e. tt), ((λ e. tt), ((λ e. tt), ((λ e. tt), ((λ e st. record { pipeline = pipeline; is = refl; bound = bound _ _ }), tt))))),
+      ),
+    ),
+  ),
+)
 
 passes-late : lateDraws (board true false) empty false (allAccepted passes) ≡ true
 unfolding lateDraws

@@ -1,0 +1,11 @@
+pub mod Bits
+pub mod Long
+pub mod Nans
+pub mod Sums
+pub mod Unset
+pub mod Data
+pub mod Picked
+pub mod Turning
+pub mod Sees
+pub mod Drawn
+pub mod Finding

@@ -1,0 +1,91 @@
+-- `boards::compare::turn` meets its contract. Assumes nothing.
+use mathlib.Core.Path.{_∙_, ap, ap₂, sym}
+use mathlib.Core.Bool.{Bool, not, _&&_}
+use Rattle.lists.specs.Class.{draws}
+use Rattle.boards.proofs.Turning.{turn-known, turn-a, turn-b, turn-draws, turn-end}
+use Rattle.boards.proofs.Picked.{at-first, at-second, at-third, at-fourth, at-last}
+use borrow.Author.Needs.{needs}
+use Rattle.boards.proofs.compare.turn.Statement.{statement}
+use Rattle.boards.proofs.compare.turn.Tie as tie
+
+returns : tie.Need-returns
+returns c = turn-known (c .before .args .m) (c .before .args .x) (c .before .args .y) (c .if1 .taken)
+
+has-more-requires : tie.Need-has-more-requires
+has-more-requires c κs = search needs
+
+has-more-requires-2 : tie.Need-has-more-requires-2
+has-more-requires-2 c κs = search needs
+
+class-of-requires : tie.Need-class-of-requires
+class-of-requires c κs = search needs
+
+class-of-requires-2 : tie.Need-class-of-requires-2
+class-of-requires-2 c κs = search needs
+
+is-draw-requires : tie.Need-is-draw-requires
+is-draw-requires c κs = search needs
+
+go-on-a-requires : tie.Need-go-on-a-requires
+go-on-a-requires c κs = search needs
+
+returns-2 : tie.Need-returns-2
+returns-2 c =
+    c .go-on-a .ensures
+    ∙ turn-a (c .before .before .before .before .before .before .before .before .before .before .args .m) (c .before .before .before .before .before .before .before .before .before .before .args .x) (c .before .before .before .before .before .before .before .before .before .before .args .y) (c .before .before .before .before .before .before .before .before .before .if1 .left)
+    (sym (ap₂ (λ (p q : Bool). p && not q) (c .before .before .before .before .before .before .has-more .ensures) (c .before .before .is-draw .ensures ∙ ap draws (c .before .before .before .before .class-of .ensures))) ∙ c .before .if2 .taken)
+
+is-draw-requires-2 : tie.Need-is-draw-requires-2
+is-draw-requires-2 c κs = search needs
+
+go-on-b-requires : tie.Need-go-on-b-requires
+go-on-b-requires c κs = search needs
+
+returns-3 : tie.Need-returns-3
+returns-3 c =
+    c .go-on-b .ensures
+    ∙ turn-b (c .before .before .before .before .before .before .before .before .before .before .before .before .args .m) (c .before .before .before .before .before .before .before .before .before .before .before .before .args .x) (c .before .before .before .before .before .before .before .before .before .before .before .before .args .y) (c .before .before .before .before .before .before .before .before .before .before .before .if1 .left)
+    (sym (ap₂ (λ (p q : Bool). p && not q) (c .before .before .before .before .before .before .before .before .has-more .ensures) (c .before .before .before .before .is-draw .ensures ∙ ap draws (c .before .before .before .before .before .before .class-of .ensures))) ∙ c .before .before .before .if2 .left)
+    (sym (ap₂ (λ (p q : Bool). p && not q) (c .before .before .before .before .before .before .before .has-more2 .ensures) (c .before .before .is-draw2 .ensures ∙ ap draws (c .before .before .before .before .before .class-of2 .ensures))) ∙ c .before .if3 .taken)
+
+compare-draws-requires : tie.Need-compare-draws-requires
+compare-draws-requires c κs = search needs
+
+returns-4 : tie.Need-returns-4
+returns-4 c =
+    c .compare-draws .ensures
+    ∙ turn-draws (c .before .before .before .before .before .before .before .before .before .before .before .before .before .args .m) (c .before .before .before .before .before .before .before .before .before .before .before .before .before .args .x) (c .before .before .before .before .before .before .before .before .before .before .before .before .before .args .y) (c .before .before .before .before .before .before .before .before .before .before .before .before .if1 .left)
+    (sym (ap₂ (λ (p q : Bool). p && not q) (c .before .before .before .before .before .before .before .before .before .has-more .ensures) (c .before .before .before .before .before .is-draw .ensures ∙ ap draws (c .before .before .before .before .before .before .before .class-of .ensures))) ∙ c .before .before .before .before .if2 .left)
+    (sym (ap₂ (λ (p q : Bool). p && not q) (c .before .before .before .before .before .before .before .before .has-more2 .ensures) (c .before .before .before .is-draw2 .ensures ∙ ap draws (c .before .before .before .before .before .before .class-of2 .ensures))) ∙ c .before .before .if3 .left)
+    (sym (ap₂ (λ (p q : Bool). p && q) (c .before .before .before .before .before .before .before .before .before .has-more .ensures) (c .before .before .before .before .before .before .before .before .has-more2 .ensures)) ∙ c .before .if4 .taken)
+
+tell-requires : tie.Need-tell-requires
+tell-requires c κs = search needs
+
+returns-5 : tie.Need-returns-5
+returns-5 c =
+    c .tell .ensures
+    ∙ turn-end (c .before .before .before .before .before .before .before .before .before .before .before .before .before .args .m) (c .before .before .before .before .before .before .before .before .before .before .before .before .before .args .x) (c .before .before .before .before .before .before .before .before .before .before .before .before .before .args .y) (c .before .before .before .before .before .before .before .before .before .before .before .before .if1 .left)
+    (sym (ap₂ (λ (p q : Bool). p && not q) (c .before .before .before .before .before .before .before .before .before .has-more .ensures) (c .before .before .before .before .before .is-draw .ensures ∙ ap draws (c .before .before .before .before .before .before .before .class-of .ensures))) ∙ c .before .before .before .before .if2 .left)
+    (sym (ap₂ (λ (p q : Bool). p && not q) (c .before .before .before .before .before .before .before .before .has-more2 .ensures) (c .before .before .before .is-draw2 .ensures ∙ ap draws (c .before .before .before .before .before .before .class-of2 .ensures))) ∙ c .before .before .if3 .left)
+    (sym (ap₂ (λ (p q : Bool). p && q) (c .before .before .before .before .before .before .before .before .before .has-more .ensures) (c .before .before .before .before .before .before .before .before .has-more2 .ensures)) ∙ c .before .if4 .left)
+
+pub turn-spec : {M : Type 1} → statement M
+turn-spec =
+    tie.close
+    (tie.spec
+    returns
+    has-more-requires
+    has-more-requires-2
+    class-of-requires
+    class-of-requires-2
+    is-draw-requires
+    go-on-a-requires
+    returns-2
+    is-draw-requires-2
+    go-on-b-requires
+    returns-3
+    compare-draws-requires
+    returns-4
+    tell-requires
+    returns-5)
