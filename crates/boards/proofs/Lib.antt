@@ -1,4 +1,3 @@
-pub mod Bits
 pub mod Long
 pub mod Nans
 pub mod Sums

@@ -1,2 +1,3 @@
+pub mod Bits
 pub mod Long
 pub mod Scanning

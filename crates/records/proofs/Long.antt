@@ -15,7 +15,7 @@ use Rattle.records.proofs.state.ImmediateState.{the-type as the-immedia
 use Rattle.records.proofs.state.PassState.{the-type as the-pass}
 use Rattle.records.proofs.state.VertexState.{the-type as the-vertex}
 
-long : {A B : Type 0} (f : A → B) (l : List A) (n : ℕ) → length (map f l) ≡ n → length l ≡ n
+pub long : {A B : Type 0} (f : A → B) (l : List A) (n : ℕ) → length (map f l) ≡ n → length l ≡ n
 long f l n e = sym (length-map l f) ∙ e
 
 -- field 4

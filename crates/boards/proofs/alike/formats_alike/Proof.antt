@@ -1,11 +1,10 @@
 -- `boards::alike::formats_alike` meets its contract. Assumes nothing.
-use lib.IntN.{ℤ}
 use mir.Syntax.{w32}
 use mir.Val.{SFits}
-use Rattle.boards.proofs.Bits.{same-bits}
-use Rattle.boards.proofs.Bits.{same-bits}
-use Rattle.boards.proofs.Bits.{same-bits}
-use Rattle.boards.proofs.Bits.{same-bits}
+use Rattle.records.proofs.Bits.{same-bits}
+use Rattle.records.proofs.Bits.{same-bits}
+use Rattle.records.proofs.Bits.{same-bits}
+use Rattle.records.proofs.Bits.{same-bits}
 use borrow.Author.Needs.{needs}
 use Rattle.boards.proofs.alike.formats_alike.Statement.{statement}
 use Rattle.boards.proofs.alike.formats_alike.Tie as tie
