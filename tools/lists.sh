@@ -7,10 +7,15 @@
 #   names A             the pipelines and draws of the lists that the session of file A records (-: standard input), with WebGPU's names in place of GL
 #                       numbers (request 2): SetPrimitive, SetDepth, SetStencilFunc, SetStencilOps, SetColorTarget and the four draws, in the printed
 #                       form, `---` between two lists; a number that has no name stays
-#   --program PATH      the program: target/bin/span_masks, target/bin/list_names if not given (rt check NAME)
+#   compare A B         whether each draw of two lists fetches alike (request 3): the list that the session of file A records, on a board with vertex buffer
+#                       layout, and that of file B, on one without: `equal`, `draw K` (the first draw that differs, from 0) or `refused N` (9: unequal
+#                       numbers of draws). One of the two may be standard input (-). Each session makes one list, ended or not. Nothing tests how the
+#                       lists were recorded: each session says its own board
+#   --program PATH      the program: target/bin/span_masks, target/bin/list_names if not given (rt check NAME); with compare one that
+#                       tools/boards/build.sh made: if not given it is built, natively and unproved, into a temporary folder
 #   --script PATH       with names, the program that records: target/bin/script if not given (rt check script)
-# A holds one session. Exit 2: wrong use, or no program. Exit 1: a number that is none, a file that cannot be read, not one session, or a wrong
-# line, whose number in A is named. Then nothing is printed but the message, on standard error.
+# A holds one session, B too. Exit 2: wrong use, or no program. Exit 1: a number that is none, a file that cannot be read, not one session, with compare
+# not one list, or a wrong line, whose number in its file is named. Then nothing is printed but the message, on standard error.
 set -eu
 here=$(cd "$(dirname "$0")" && pwd -P)
 
@@ -22,6 +27,7 @@ fail() {
 usage() {
     echo "usage: lists.sh span A LOWER UPPER [--program PATH]" >&2
     echo "       lists.sh names A [--program PATH] [--script PATH]" >&2
+    echo "       lists.sh compare A B [--program PATH]" >&2
     exit 2
 }
 
@@ -108,6 +114,53 @@ names() {
     sed '$d' "$folder/answer"
 }
 
+# The lines of the copy $1, the last one ended.
+whole_lines() {
+    cat "$1"
+    [ -z "$(tail -c 1 "$1")" ] || echo
+}
+
+# No line of file $1, whose copy is $2, stands after its session.
+one_session() {
+    calls=$(sed -n '1s/^[0-9 ]* \([0-9]\{1,5\}\)$/\1/p' "$2")
+    [ -z "$calls" ] || [ "$(sed -n '$=' "$2")" -le $((calls + 1)) ] || more_lines "$1" "$2"
+}
+
+# What the program answers, $1, about the files $2 and $3 with a line between them: a wrong line is told, first lines before lines too many.
+check_pair() {
+    between=$(($(sed -n '$=' "$folder/a") + 1))
+    line=0
+    case $1 in 'error: line '*) line=${1#error: line } && line=${line%%:*} ;; esac
+    [ "$line" -ne 1 ] || wrong_line "$1" "$2" "$folder/a" 0
+    one_session "$2" "$folder/a"
+    [ "$line" -ne $((between + 1)) ] || wrong_line "$1" "$3" "$folder/b" "$between"
+    one_session "$3" "$folder/b"
+    [ "$line" -ne 0 ] || return 0
+    [ "$line" -gt "$between" ] || wrong_line "$1" "$2" "$folder/a" 0
+    wrong_line "$1" "$3" "$folder/b" "$between"
+}
+
+compare() {
+    { [ $# -eq 2 ] && [ -z "$script" ]; } || usage
+    { [ "$1" != - ] || [ "$2" != - ]; } || usage
+    copy_session "$1" "$folder/a"
+    copy_session "$2" "$folder/b"
+    if [ -z "$program" ]; then
+        program=$folder/compare_boards
+        "$here/boards/build.sh" "$program" || exit 2
+    fi
+    find_program compare_boards "$program"
+    { whole_lines "$folder/a" && echo and && whole_lines "$folder/b" && echo compare; } >"$folder/input"
+    "$found" <"$folder/input" >"$folder/answer" || fail "$found failed"
+    answer=$(cat "$folder/answer")
+    check_pair "$answer" "$1" "$2"
+    case $answer in
+        equal | 'draw '* | 'refused '*) ;;
+        *) fail "$found gives no answer" ;;
+    esac
+    echo "$answer"
+}
+
 program=
 script=
 left=$#
@@ -135,5 +188,6 @@ trap 'exit 1' HUP INT TERM
 case $command in
     span) span "$@" ;;
     names) names "$@" ;;
+    compare) compare "$@" ;;
     *) usage ;;
 esac

@@ -1,0 +1,166 @@
+#!/usr/bin/env python3
+"""model.py: what the answer about two lists has to be (document 02, request 3). Standard input: what the program of tools/boards prints for pairs that
+end in `show`. For each pair a line `equal`, `draw K` or `refused N`, worked out from its printed lists; the program's own line ends a pair and is
+not looked at. Written from documents 01 and 02; it shares no code with the library."""
+import math
+import struct
+import sys
+
+DRAWS = {"Draw", "DrawIndexed", "DrawIndirect", "DrawIndexedIndirect"}
+COLOR_ATTACHMENT0 = 0x8CE0  # OpenGL ES 3.2: 0 to 31 have names, one after another
+PLACES, LOCATIONS = 8, 16
+# commands with one number that has a limit, by 3: which field, and the first number that is out of range
+RANGES = {
+    "UnsetVertexAttribute": (0, 16), "SetVertexBuffer": (0, 16), "BindSampler": (0, 16), "BindTexture": (0, 16),  # "slots are 0 to 15"
+    "BindBuffer": (1, 256), "BindImage": (0, 256),                                                               # "any byte"
+    "ClearColorF": (0, PLACES), "ClearColorU": (0, PLACES), "ClearColorI": (0, PLACES),                          # "At most 8 colour places"
+    "InvalidateAttachments": (0, 2 ** 10),                                                                       # "a set of ten bits"
+}
+
+
+class List:
+    """A list as it is handed in: the length of its lent run, its counts, its used commands as words."""
+    def __init__(self, line):
+        self.length, self.commands, self.bytes, self.queries = map(int, line.split()[1:])
+        self.lines = []
+
+    def draws(self):
+        return sum(words[0] in DRAWS for words in self.lines)
+
+
+def attachment_breaks(number):
+    """A colour place of 8 or more; other attachments have no place."""
+    return COLOR_ATTACHMENT0 + PLACES <= number < COLOR_ATTACHMENT0 + 32
+
+
+def immediate_breaks(given, f):
+    """A descriptor: location, type, offset, size; then the place of its bytes."""
+    offset, size, place = int(f[2]), int(f[3]), int(f[4])
+    return ({3} if offset % 4 or size % 4 or offset + size > 256 else set()) | ({7} if place + size > given.bytes else set())
+
+
+def range_breaks(start, end, count, reversed_number):
+    return ({reversed_number} if end < start else set()) | ({7} if end > count else set())
+
+
+def breaks(given, words):
+    """The numbers of the limits that a command breaks."""
+    name, f = words[0], words[1:]
+    if name in RANGES:
+        field, end = RANGES[name]
+        return {3} if int(f[field]) >= end else set()
+    if name == "SetDrawColorBuffers":
+        return {2} if int(f[0]) > PLACES else set()
+    if name == "SetVertexAttribute":
+        return {3} if int(f[3]) >= LOCATIONS or int(f[5]) >= 16 else set()
+    if name == "SetColorTarget":
+        return {3} if f[0] != "-" and int(f[0]) >= PLACES else set()
+    if name in ("BindAttachment", "ResolveAttachment"):
+        return {3} if attachment_breaks(int(f[0])) else set()
+    if name == "SetImmediates":
+        return immediate_breaks(given, f)
+    if name == "CopyQueryResults":
+        return range_breaks(int(f[0]), int(f[1]), given.queries, 3)
+    if name == "PushDebugGroup":
+        return range_breaks(int(f[0]), int(f[1]), given.bytes, 7)
+    return set()
+
+
+def refusals(given):
+    """The numbers of all limits that a list breaks."""
+    over = given.commands > 4096 or given.bytes > 65536 or given.queries > 1024 or given.commands > given.length
+    found = {7} if over else set()
+    for words in given.lines:
+        found |= breaks(given, words)
+    return found
+
+
+def float_of(bits):
+    return struct.unpack(">f", bytes.fromhex(bits))[0]
+
+
+class Machine:
+    """What a draw can find, as far as it is compared."""
+    def __init__(self):
+        self.attributes, self.buffers, self.program, self.blend = {}, {}, None, (0.0, 0.0, 0.0, 0.0)
+
+    def play(self, words):
+        name, f = words[0], words[1:]
+        if name == "SetVertexAttribute":
+            buffer, step, stride, location, offset, slot, *form = f
+            self.attributes[int(location)] = (buffer, step, int(stride), int(offset), int(slot), tuple(form))
+        elif name == "UnsetVertexAttribute":
+            self.attributes.pop(int(f[0]), None)
+        elif name == "SetVertexBuffer":
+            self.buffers[int(f[0])] = (f[1], int(f[2]), f[3], int(f[4]))
+        elif name == "SetProgram":
+            self.program = f[0]
+        elif name == "SetBlendConstant":
+            self.blend = tuple(map(float_of, f))
+
+    def fetch(self, location):
+        """Format, buffer, first byte, stride and step; only the format where the slot has no buffer."""
+        buffer, step, stride, offset, slot, form = self.attributes[location]
+        if buffer != "-":
+            return form, (buffer, offset, stride, step)
+        if slot not in self.buffers:
+            return form, None
+        raw, base, step, stride = self.buffers[slot]
+        return form, (raw, offset + base, stride, step)
+
+    def found(self):
+        return {location: self.fetch(location) for location in self.attributes}, self.program, self.blend
+
+
+def found_by_draws(given):
+    machine, found = Machine(), []
+    for words in given.lines:
+        if words[0] in DRAWS:
+            found.append(machine.found())
+        machine.play(words)
+    return found
+
+
+def same_float(x, y):
+    return x == y or (math.isnan(x) and math.isnan(y))
+
+
+def alike(with_layout, without):
+    fetches, program, blend = with_layout
+    wanted, other, constants = without
+    return all(fetches.get(location) == fetch for location, fetch in wanted.items()) and program == other and all(map(same_float, blend, constants))
+
+
+def answer(a, b):
+    """The answer about the list with vertex buffer layout and the one without."""
+    refused = refusals(a) | refusals(b)
+    if refused:
+        return f"refused {min(refused)}"
+    if a.draws() != b.draws():
+        return "refused 9"
+    for k, (x, y) in enumerate(zip(found_by_draws(a), found_by_draws(b))):
+        if not alike(x, y):
+            return f"draw {k}"
+    return "equal"
+
+
+def pairs(lines):
+    """The pairs of a text, each with the line that ends it."""
+    lists = []
+    for line in lines:
+        if line.startswith("list "):
+            lists.append(List(line))
+        elif line[:1].isdigit():
+            lists[-1].lines.append(line.split()[1:])
+        else:
+            yield lists, line
+            lists = []
+
+
+def main():
+    for lists, line in pairs(sys.stdin.read().splitlines()):
+        print(answer(*lists) if len(lists) == 2 else line)
+
+
+if __name__ == "__main__":
+    main()
