@@ -8,3 +8,5 @@ pub mod Turning
 pub mod Sees
 pub mod Drawn
 pub mod Finding
+pub mod Numbered
+pub mod Examples

@@ -1,7 +1,9 @@
 -- The answer about two lists: document 02 §3. Definitions only.
-use Prim.Native.Nat.{ℕ, suc}
-use mathlib.Core.Bool.{Bool, cond}
+use Prim.Native.Nat.{ℕ, suc, _<_}
+use mathlib.Core.Path.{_≡_}
+use mathlib.Core.Bool.{Bool, true, false, cond, not, _&&_, _||_}
 use mathlib.Core.List.{List, [], _∷_}
+use mathlib.Core.Logic.{_⊎_}
 use lib.Dec.{eqb}
 use lib.Ieee.{Float}
 use lib.ListN.{length}
@@ -43,3 +45,15 @@ drawsOf l = shotsFrom freshGl (l .commands)
 -- a is the list with layout, b the one without
 abbrev pub compared : (Float → Float → Bool) → Handed → Handed → Compared
 compared same a b = refusedOr (eitherBreaks (brokenBy a) (brokenBy b)) (byDraws same (drawsOf a) (drawsOf b))
+
+-- condition n holds: 2, 3 and 7 of the one list or of the other, and 9
+abbrev pub holds : Handed → Handed → ℕ → Bool
+holds a b n =
+    (eqb n 2 && (brokenBy a .many || brokenBy b .many))
+    || ((eqb n 3 && (brokenBy a .range || brokenBy b .range))
+    || ((eqb n 7 && (brokenBy a .room || brokenBy b .room))
+    || (eqb n 9 && not (eqb (length (drawsOf a)) (length (drawsOf b))))))
+
+-- n is "the smallest number whose condition holds", or none holds and n is 0
+abbrev pub SmallestOf : Handed → Handed → ℕ → Type 0
+SmallestOf a b n = ((holds a b n ≡ true) × ((k : ℕ) → k < n → holds a b k ≡ false)) ⊎ ((n ≡ 0) × ((k : ℕ) → holds a b k ≡ false))

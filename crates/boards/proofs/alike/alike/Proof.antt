@@ -28,8 +28,10 @@ same-color-requires c κs = search needs
 
 returns : tie.Need-returns
 returns c =
-    ap₂ (λ (p q : Bool). p && q) (c .before .before .locations-alike .ensures)
-    (ap₂ (λ (p q : Bool). p && q) (c .before .same-option-u32 .ensures ∙ same-program (c .before .before .before .before .before .args .x .program) (c .before .before .before .before .before .args .y .program)) (c .same-color .ensures))
+    let c2 = c .before .before in
+    let c5 = c2 .before .before .before in
+    ap₂ (λ (p q : Bool). p && q) (c2 .locations-alike .ensures)
+    (ap₂ (λ (p q : Bool). p && q) (c .before .same-option-u32 .ensures ∙ same-program (c5 .args .x .program) (c5 .args .y .program)) (c .same-color .ensures))
 
 pub alike-spec : {M : Type 1} → statement M
 alike-spec =

@@ -21,7 +21,10 @@ sources-alike-requires : tie.Need-sources-alike-requires
 sources-alike-requires c κs = search needs
 
 returns : tie.Need-returns
-returns c = λ l. ap₂ (λ (p q : Bool). p && q) (c .before .before .before .formats-alike .ensures) (c .sources-alike .ensures ∙ ap₂ sourcesAlike (c .before .before .source-of .ensures) (c .before .source-of2 .ensures))
+returns c =
+    let c2 = c .before .before in
+    let c3 = c2 .before in
+    λ l. ap₂ (λ (p q : Bool). p && q) (c3 .formats-alike .ensures) (c .sources-alike .ensures ∙ ap₂ sourcesAlike (c2 .source-of .ensures) (c .before .source-of2 .ensures))
 
 pub fetches-alike-spec : {M : Type 1} → statement M
 fetches-alike-spec =

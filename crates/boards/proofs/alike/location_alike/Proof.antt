@@ -33,27 +33,38 @@ fetches-alike-requires c κs = search needs
 
 returns : tie.Need-returns
 returns c =
-    let x = c .before .before .before .args .x in
-    let y = c .before .before .before .args .y in
-    let l = c .before .before .before .args .location in
-    ap (λ (b : OptionAttribute). locationAlike (fetchAt (verticesOf x) l) (fetchOf l (λ i. bufferOf (bufferIn y i)) (attributeOf b))) (sym (c .enum-told .given .1) ∙ c .before .before .attribute-at .ensures)
+    let c2 = c .before .before in
+    let c3 = c2 .before in
+    let x = c3 .args .x in
+    let y = c3 .args .y in
+    let l = c3 .args .location in
+    ap (λ (b : OptionAttribute). locationAlike (fetchAt (verticesOf x) l) (fetchOf l (λ i. bufferOf (bufferIn y i)) (attributeOf b))) (sym (c .enum-told .given .1) ∙ c2 .attribute-at .ensures)
 
 returns-2 : tie.Need-returns-2
 returns-2 c =
-    let x = c .before .before .before .before .before .before .before .args .x in
-    let y = c .before .before .before .before .before .before .before .args .y in
-    let l = c .before .before .before .before .before .before .before .args .location in
+    let c2 = c .before .before in
+    let c4 = c2 .before .before in
+    let c6 = c4 .before .before in
+    let c7 = c6 .before in
+    let x = c7 .args .x in
+    let y = c7 .args .y in
+    let l = c7 .args .location in
     ap₂ (λ (a b : OptionAttribute). locationAlike (fetchOf l (λ i. bufferOf (bufferIn x i)) (attributeOf a)) (fetchOf l (λ i. bufferOf (bufferIn y i)) (attributeOf b)))
-    (sym (c .enum-told2 .given .1) ∙ c .before .before .attribute-at2 .ensures) (sym (c .before .before .before .before .b .given .1) ∙ c .before .before .before .before .before .before .attribute-at .ensures)
+    (sym (c .enum-told2 .given .1) ∙ c2 .attribute-at2 .ensures) (sym (c4 .b .given .1) ∙ c6 .attribute-at .ensures)
 
 returns-3 : tie.Need-returns-3
 returns-3 c =
-    let x = c .before .before .before .before .before .before .before .before .before .args .x in
-    let y = c .before .before .before .before .before .before .before .before .before .args .y in
-    let l = c .before .before .before .before .before .before .before .before .before .args .location in
+    let c2 = c .before .before in
+    let c4 = c2 .before .before in
+    let c6 = c4 .before .before in
+    let c8 = c6 .before .before in
+    let c9 = c8 .before in
+    let x = c9 .args .x in
+    let y = c9 .args .y in
+    let l = c9 .args .location in
     c .fetches-alike .ensures l
     ∙ ap₂ (λ (a b : OptionAttribute). locationAlike (fetchOf l (λ i. bufferOf (bufferIn x i)) (attributeOf a)) (fetchOf l (λ i. bufferOf (bufferIn y i)) (attributeOf b)))
-    (sym (c .before .before .a .given .1) ∙ c .before .before .before .before .attribute-at2 .ensures) (sym (c .before .before .before .before .before .before .b .given .1) ∙ c .before .before .before .before .before .before .before .before .attribute-at .ensures)
+    (sym (c2 .a .given .1) ∙ c4 .attribute-at2 .ensures) (sym (c6 .b .given .1) ∙ c8 .attribute-at .ensures)
 
 pub location-alike-spec : {M : Type 1} → statement M
 location-alike-spec =

@@ -38,7 +38,10 @@ returns-3 : tie.Need-returns-3
 returns-3 c = search needs
 
 returns-4 : tie.Need-returns-4
-returns-4 c = c .same-source .ensures ∙ ap₂ (λ (x y : OptionSource). sourcesAlike (sourceIs x) (sourceIs y)) (sym (c .before .before .before .before .before .x .given .1)) (sym (c .before .before .y .given .1))
+returns-4 c =
+    let c2 = c .before .before in
+    let c5 = c2 .before .before .before in
+    c .same-source .ensures ∙ ap₂ (λ (x y : OptionSource). sourcesAlike (sourceIs x) (sourceIs y)) (sym (c5 .x .given .1)) (sym (c2 .y .given .1))
 
 pub sources-alike-spec : {M : Type 1} → statement M
 sources-alike-spec =

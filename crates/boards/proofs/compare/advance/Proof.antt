@@ -22,14 +22,17 @@ place-requires c κs = search needs
 
 returns : tie.Need-returns
 returns c =
-    let s = c .before .before .before .before .before .args .s in
+    let c3 = c .before .before .before in
+    let c5 = c3 .before .before in
+    let s = c5 .args .s in
     ap (λ (x : Settings). record { count = s .count; at = s .at + 1; settings = x }) (c .place .ensures)
-    ∙ ap (λ (t : Bool). cond t (record { count = s .count; at = s .at + 1; settings = placed (s .settings) (c .before .before .before .before .before .args .x .command) }) s) (sym (lt-ltb (s .at) (s .count) (c .before .before .before .if1 .taken)))
+    ∙ ap (λ (t : Bool). cond t (record { count = s .count; at = s .at + 1; settings = placed (s .settings) (c5 .args .x .command) }) s) (sym (lt-ltb (s .at) (s .count) (c3 .if1 .taken)))
 
 returns-2 : tie.Need-returns-2
 returns-2 c =
-    let s = c .before .before .args .s in
-    ap (λ (t : Bool). cond t (record { count = s .count; at = s .at + 1; settings = placed (s .settings) (c .before .before .args .x .command) }) s) (sym (le-ltb (s .at) (s .count) (c .if1 .left)))
+    let c2 = c .before .before in
+    let s = c2 .args .s in
+    ap (λ (t : Bool). cond t (record { count = s .count; at = s .at + 1; settings = placed (s .settings) (c2 .args .x .command) }) s) (sym (le-ltb (s .at) (s .count) (c .if1 .left)))
 
 pub advance-spec : {M : Type 1} → statement M
 advance-spec = tie.close (tie.spec add-t6 place-requires returns returns-2)

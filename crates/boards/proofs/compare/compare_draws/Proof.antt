@@ -22,19 +22,25 @@ one-more-requires c κs = search needs
 
 returns : tie.Need-returns
 returns c =
-    let m = c .before .before .before .before .before .before .before .before .before .args .m in
-    let next : Both = record { a = advanced (m .a) (c .before .before .before .before .before .before .before .before .before .args .x); b = advanced (m .b) (c .before .before .before .before .before .before .before .before .before .args .y); draws = oneMore (m .draws); known = m .known; answer = m .answer } in
-    (λ i. record { a = c .before .before .advance .ensures i; b = c .before .advance2 .ensures i; draws = c .one-more .ensures i; known = m .known; answer = m .answer })
-    ∙ ap (λ (t : Bool). cond t next (told (Differs (m .draws)) m)) (sym (c .before .before .before .if1 .taken) ∙ c .before .before .before .before .alike .ensures)
+    let c2 = c .before .before in
+    let c3 = c2 .before in
+    let c4 = c3 .before in
+    let c9 = c4 .before .before .before .before .before in
+    let m = c9 .args .m in
+    let next : Both = record { a = advanced (m .a) (c9 .args .x); b = advanced (m .b) (c9 .args .y); draws = oneMore (m .draws); known = m .known; answer = m .answer } in
+    (λ i. record { a = c2 .advance .ensures i; b = c .before .advance2 .ensures i; draws = c .one-more .ensures i; known = m .known; answer = m .answer })
+    ∙ ap (λ (t : Bool). cond t next (told (Differs (m .draws)) m)) (sym (c3 .if1 .taken) ∙ c4 .alike .ensures)
 
 tell-requires : tie.Need-tell-requires
 tell-requires c κs = search needs
 
 returns-2 : tie.Need-returns-2
 returns-2 c =
-    let m = c .before .before .before .before .before .before .before .args .m in
-    let next : Both = record { a = advanced (m .a) (c .before .before .before .before .before .before .before .args .x); b = advanced (m .b) (c .before .before .before .before .before .before .before .args .y); draws = oneMore (m .draws); known = m .known; answer = m .answer } in
-    c .tell .ensures ∙ ap (λ (t : Bool). cond t next (told (Differs (m .draws)) m)) (sym (c .before .if1 .left) ∙ c .before .before .alike .ensures)
+    let c2 = c .before .before in
+    let c7 = c2 .before .before .before .before .before in
+    let m = c7 .args .m in
+    let next : Both = record { a = advanced (m .a) (c7 .args .x); b = advanced (m .b) (c7 .args .y); draws = oneMore (m .draws); known = m .known; answer = m .answer } in
+    c .tell .ensures ∙ ap (λ (t : Bool). cond t next (told (Differs (m .draws)) m)) (sym (c .before .if1 .left) ∙ c2 .alike .ensures)
 
 pub compare-draws-spec : {M : Type 1} → statement M
 compare-draws-spec =

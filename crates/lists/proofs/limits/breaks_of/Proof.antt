@@ -133,10 +133,16 @@ returns : tie.Need-returns
 returns c = c .query-breaks .ensures ∙ ap (breaks (c .before .before .before .before .args .used)) (sym (c .before .before .command .given .1))
 
 returns-2 : tie.Need-returns-2
-returns-2 c = c .out-of-range .ensures ∙ ap outOfRange (c .before .bad-attachment .ensures) ∙ ap (breaks (c .before .before .before .before .before .args .used)) (sym (c .before .before .before .command2 .given .1))
+returns-2 c =
+    let c3 = c .before .before .before in
+    let c5 = c3 .before .before in
+    c .out-of-range .ensures ∙ ap outOfRange (c .before .bad-attachment .ensures) ∙ ap (breaks (c5 .args .used)) (sym (c3 .command2 .given .1))
 
 returns-3 : tie.Need-returns-3
-returns-3 c = c .out-of-range2 .ensures ∙ ap outOfRange (c .before .bad-attachment2 .ensures) ∙ ap (breaks (c .before .before .before .before .before .args .used)) (sym (c .before .before .before .command3 .given .1))
+returns-3 c =
+    let c3 = c .before .before .before in
+    let c5 = c3 .before .before in
+    c .out-of-range2 .ensures ∙ ap outOfRange (c .before .bad-attachment2 .ensures) ∙ ap (breaks (c5 .args .used)) (sym (c3 .command3 .given .1))
 
 returns-4 : tie.Need-returns-4
 returns-4 c = c .out-of-range3 .ensures ∙ ap (breaks (c .before .before .before .before .args .used)) (sym (c .before .before .command4 .given .1))
@@ -154,7 +160,10 @@ returns-8 : tie.Need-returns-8
 returns-8 c = c .out-of-range6 .ensures ∙ ap (breaks (c .before .before .before .before .args .used)) (sym (c .before .before .command8 .given .1))
 
 returns-9 : tie.Need-returns-9
-returns-9 c = c .out-of-range7 .ensures ∙ ap outOfRange (c .before .bad-attribute .ensures) ∙ ap (breaks (c .before .before .before .before .before .args .used)) (sym (c .before .before .before .command9 .given .1))
+returns-9 c =
+    let c3 = c .before .before .before in
+    let c5 = c3 .before .before in
+    c .out-of-range7 .ensures ∙ ap outOfRange (c .before .bad-attribute .ensures) ∙ ap (breaks (c5 .args .used)) (sym (c3 .command9 .given .1))
 
 returns-10 : tie.Need-returns-10
 returns-10 c = c .out-of-range8 .ensures ∙ ap (breaks (c .before .before .before .before .args .used)) (sym (c .before .before .command10 .given .1))
@@ -163,7 +172,10 @@ returns-11 : tie.Need-returns-11
 returns-11 c = c .out-of-range9 .ensures ∙ ap (breaks (c .before .before .before .before .args .used)) (sym (c .before .before .command11 .given .1))
 
 returns-12 : tie.Need-returns-12
-returns-12 c = c .out-of-range10 .ensures ∙ ap outOfRange (c .before .bad-target .ensures) ∙ ap (breaks (c .before .before .before .before .before .args .used)) (sym (c .before .before .before .command12 .given .1))
+returns-12 c =
+    let c3 = c .before .before .before in
+    let c5 = c3 .before .before in
+    c .out-of-range10 .ensures ∙ ap outOfRange (c .before .bad-target .ensures) ∙ ap (breaks (c5 .args .used)) (sym (c3 .command12 .given .1))
 
 returns-13 : tie.Need-returns-13
 returns-13 c = c .out-of-range11 .ensures ∙ ap (breaks (c .before .before .before .before .args .used)) (sym (c .before .before .command13 .given .1))
@@ -181,7 +193,10 @@ returns-17 : tie.Need-returns-17
 returns-17 c = c .marker-breaks .ensures ∙ ap (breaks (c .before .before .before .before .args .used)) (sym (c .before .before .command17 .given .1))
 
 returns-18 : tie.Need-returns-18
-returns-18 c = c .immediate-breaks .ensures ∙ ap (breaks (c .before .before .before .before .args .used)) (sym (c .before .before .command18 .given .1))
+returns-18 c =
+    let c2 = c .before .before in
+    let c4 = c2 .before .before in
+    c .immediate-breaks .ensures ∙ ap (breaks (c4 .args .used)) (sym (c2 .command18 .given .1))
 
 returns-19 : tie.Need-returns-19
 returns-19 c = c .keeps .ensures ∙ keeps-all (c .before .before .args .used) (c .before .before .args .command) (c .before .match .keys19)

@@ -17,7 +17,9 @@ bad-descriptor-requires : tie.Need-bad-descriptor-requires
 bad-descriptor-requires c κs = search needs
 
 returns : tie.Need-returns
-returns c = ap (λ (b : Bool). record { many = false; range = b; room = ltb (c .before .before .args .used .bytes) (c .before .before .args .offset + c .before .before .args .d .«size_bytes») }) (c .bad-descriptor .ensures)
+returns c =
+    let c2 = c .before .before in
+    ap (λ (b : Bool). record { many = false; range = b; room = ltb (c2 .args .used .bytes) (c2 .args .offset + c2 .args .d .«size_bytes») }) (c .bad-descriptor .ensures)
 
 pub immediate-breaks-spec : {M : Type 1} → statement M
 immediate-breaks-spec = tie.close (tie.spec cast-end add-end bad-descriptor-requires returns)

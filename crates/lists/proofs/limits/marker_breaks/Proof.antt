@@ -17,7 +17,10 @@ beyond-run-requires : tie.Need-beyond-run-requires
 beyond-run-requires c κs = search needs
 
 returns : tie.Need-returns
-returns c = c .beyond-run .ensures ∙ ap (λ (b : Bool). beyondRun (b || ltb (c .before .before .before .before .args .used .bytes) (c .before .before .before .before .args .range .end))) (c .before .before .before .reversed .ensures)
+returns c =
+    let c3 = c .before .before .before in
+    let c4 = c3 .before in
+    c .beyond-run .ensures ∙ ap (λ (b : Bool). beyondRun (b || ltb (c4 .args .used .bytes) (c4 .args .range .end))) (c3 .reversed .ensures)
 
 pub marker-breaks-spec : {M : Type 1} → statement M
 marker-breaks-spec =

@@ -13,7 +13,10 @@ cast-t4 : tie.Need-cast-t4
 cast-t4 c = search needs
 
 returns : tie.Need-returns
-returns c = ap (λ (b : Bool). record { many = false; range = b; room = ltb (c .before .before .before .args .used .queries) (c .before .before .before .args .range .end) }) (c .before .before .reversed .ensures)
+returns c =
+    let c2 = c .before .before in
+    let c3 = c2 .before in
+    ap (λ (b : Bool). record { many = false; range = b; room = ltb (c3 .args .used .queries) (c3 .args .range .end) }) (c2 .reversed .ensures)
 
 pub query-breaks-spec : {M : Type 1} → statement M
 query-breaks-spec = tie.close (tie.spec reversed-requires cast-t4 returns)

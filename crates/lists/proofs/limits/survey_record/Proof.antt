@@ -26,15 +26,24 @@ add-draws c = search needs
 
 returns : tie.Need-returns
 returns c =
-    ap₂ (λ (b : Breaks) (n : ℕ). record { used = c .before .before .before .before .before .before .before .before .args .s .used; breaks = b; draws = n })
-    (c .before .before .before .before .either .ensures ∙ ap (eitherBreaks (c .before .before .before .before .before .before .before .before .args .s .breaks)) (c .before .before .before .before .before .breaks-of .ensures))
-    (ap (λ (b : Bool). cond b (c .before .before .before .before .before .before .before .before .args .s .draws + 1) (c .before .before .before .before .before .before .before .before .args .s .draws)) (sym (c .before .if1 .taken) ∙ c .before .before .is-draw .ensures ∙ ap draws (c .before .before .before .class-of .ensures)))
+    let c2 = c .before .before in
+    let c3 = c2 .before in
+    let c4 = c3 .before in
+    let c5 = c4 .before in
+    let c8 = c5 .before .before .before in
+    ap₂ (λ (b : Breaks) (n : ℕ). record { used = c8 .args .s .used; breaks = b; draws = n })
+    (c4 .either .ensures ∙ ap (eitherBreaks (c8 .args .s .breaks)) (c5 .breaks-of .ensures))
+    (ap (λ (b : Bool). cond b (c8 .args .s .draws + 1) (c8 .args .s .draws)) (sym (c .before .if1 .taken) ∙ c2 .is-draw .ensures ∙ ap draws (c3 .class-of .ensures)))
 
 returns-2 : tie.Need-returns-2
 returns-2 c =
-    ap₂ (λ (b : Breaks) (n : ℕ). record { used = c .before .before .before .before .before .before .before .args .s .used; breaks = b; draws = n })
-    (c .before .before .before .either .ensures ∙ ap (eitherBreaks (c .before .before .before .before .before .before .before .args .s .breaks)) (c .before .before .before .before .breaks-of .ensures))
-    (ap (λ (b : Bool). cond b (c .before .before .before .before .before .before .before .args .s .draws + 1) (c .before .before .before .before .before .before .before .args .s .draws)) (sym (c .if1 .left) ∙ c .before .is-draw .ensures ∙ ap draws (c .before .before .class-of .ensures)))
+    let c2 = c .before .before in
+    let c3 = c2 .before in
+    let c4 = c3 .before in
+    let c7 = c4 .before .before .before in
+    ap₂ (λ (b : Breaks) (n : ℕ). record { used = c7 .args .s .used; breaks = b; draws = n })
+    (c3 .either .ensures ∙ ap (eitherBreaks (c7 .args .s .breaks)) (c4 .breaks-of .ensures))
+    (ap (λ (b : Bool). cond b (c7 .args .s .draws + 1) (c7 .args .s .draws)) (sym (c .if1 .left) ∙ c .before .is-draw .ensures ∙ ap draws (c2 .class-of .ensures)))
 
 pub survey-record-spec : {M : Type 1} → statement M
 survey-record-spec =
