@@ -10,11 +10,11 @@ use Rattle.records.specs.Check.{some?}
 use Rattle.records.specs.declared.command.AttributeDesc.{AttributeDesc}
 use Rattle.records.specs.declared.command.Command.{Command}
 use Rattle.records.specs.declared.command.Command.the-variants.{Draw, ResetFramebuffer, SetVertexAttribute, UnsetVertexAttribute, SetVertexBuffer, SetProgram, SetBlendConstant}
-use Rattle.records.specs.declared.command.Command.the-variants.{SetDrawColorBuffers, PushDebugGroup, SetImmediates, CopyQueryResults, BindAttachment, BindBuffer, PopDebugGroup}
+use Rattle.records.specs.declared.command.Command.the-variants.{SetDrawColorBuffers, PushDebugGroup, SetImmediates, CopyQueryResults, BindBuffer, PopDebugGroup}
 use Rattle.records.specs.declared.command.OptionU32.the-variants.{None, Some}
 use Rattle.records.specs.declared.command.VertexAttribKind.the-variants as kind
 use Rattle.records.specs.declared.command.VertexBufferDesc.{VertexBufferDesc}
-use Rattle.records.specs.declared.command.VertexStepMode.the-variants.{Vertex, Instance}
+use Rattle.records.specs.declared.command.VertexStepMode.the-variants.{Vertex}
 use Rattle.lists.specs.Shots.{shotsFrom}
 use Rattle.lists.specs.Limits.{Handed}
 use Rattle.boards.specs.declared.compare.Compared.{Compared}

@@ -1,7 +1,7 @@
 -- The code's comparison of floats: only a NaN differs from itself. Assumes nothing.
-use mathlib.Core.Path.{_≡_, refl, sym, ap, ap₂, _∙_}
+use mathlib.Core.Path.{_≡_, refl, sym, ap, ap₂}
 use mathlib.Core.Bool.{Bool, true, false, _&&_, _||_}
-use lib.Ieee.{Float, nan, isNan, eq, ne}
+use lib.Ieee.{Float, isNan, eq, ne}
 use lib.Ieee.Bits.{is-false}
 use Rattle.numbers.proofs.Nan.{is-nan, no-nan}
 use Rattle.boards.specs.Alike.{sameNumber}

@@ -5,7 +5,6 @@ use lib.Dec.{eqb}
 use Rattle.records.specs.declared.command.Record.{Record}
 use Rattle.lists.specs.declared.limits.Surveyed.{Surveyed}
 use Rattle.boards.specs.declared.compare.Both.{Both}
-use Rattle.boards.specs.declared.compare.Compared.{Compared}
 use Rattle.boards.specs.declared.compare.Compared.the-variants.{Equal, TooMany, OutOfRange, NoRoom, DrawCounts}
 use Rattle.boards.specs.Side.{firstAnswer, isDraw, hasMore, advanced, withA, withB, told, atDraws, turnOf}
 use Rattle.boards.proofs.Picked.{at-first, at-second, at-third, at-fourth, at-last}

@@ -1,6 +1,6 @@
 -- Two lists played side by side: the turns of src/compare.rt. Definitions only.
-use Prim.Native.Nat.{ℕ, suc, _+_, min}
-use mathlib.Core.Bool.{Bool, true, false, cond, not, _&&_, _||_}
+use Prim.Native.Nat.{ℕ, _+_, min}
+use mathlib.Core.Bool.{Bool, true, false, cond, not, _&&_}
 use lib.Dec.{eqb, ltb}
 use Rattle.records.specs.declared.command.Command.the-variants.{PopDebugGroup}
 use Rattle.records.specs.declared.command.Record.{Record}

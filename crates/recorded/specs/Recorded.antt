@@ -1,5 +1,4 @@
 -- WHAT IS CLAIMED: a list that the calls recorded breaks no limit (lists/specs/Limits.antt), so that no function that is handed it turns it away. Definitions only.
-use Prim.Native.Nat.{ℕ}
 use mathlib.Core.Path.{_≡_}
 use mathlib.Core.Bool.{true}
 use mathlib.Core.List.{List}

@@ -6,10 +6,9 @@ use mathlib.Core.List.{List, [], _∷_, map}
 use mathlib.Core.Option.{Option, none, some}
 use lib.Dec.{eqb}
 use lib.Ieee.{Float}
-use lib.IntN.{ℤ, pos, negsuc}
 use borrow.Author.Tests.{eqb-true, eq-eqb}
 use Rattle.records.specs.Check.{among, locations}
-use Rattle.records.specs.Same.{sameInt}
+use Rattle.records.specs.Same.{integer, itself}
 use Rattle.records.specs.declared.command.AttributeDesc.{AttributeDesc}
 use Rattle.records.specs.declared.command.ColorF32.{ColorF32}
 use Rattle.records.specs.declared.command.Command.the-variants.{Draw, DrawIndexed}
@@ -41,10 +40,6 @@ use Rattle.two_boards.specs.Claim.{Reflexive}
 both : (a b : Bool) → a ≡ true → b ≡ true → a && b ≡ true
 both a b p q = ap₂ (λ (x y : Bool). x && y) p q
 
-int-self : (x : ℤ) → sameInt x x ≡ true
-int-self (pos n) = eq-eqb n n refl
-int-self (negsuc n) = eq-eqb n n refl
-
 step-self : (x : VertexStepMode) → sameStep x x ≡ true
 step-self Vertex = refl
 step-self Instance = refl
@@ -55,7 +50,7 @@ kind-self kind.Integer = refl
 
 format-self : (x : VertexFormatDesc) → formatsAlike x x ≡ true
 format-self x =
-    both _ _ (int-self (x .«element_count»)) (both _ _ (eq-eqb (x .«element_format») (x .«element_format») refl) (kind-self (x .«attrib_kind»)))
+    both _ _ (itself integer (x .«element_count»)) (both _ _ (eq-eqb (x .«element_format») (x .«element_format») refl) (kind-self (x .«attrib_kind»)))
 
 source-self : (x : Option Source) → sourcesAlike x x ≡ true
 source-self none = refl

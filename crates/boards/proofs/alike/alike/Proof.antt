@@ -9,7 +9,6 @@ use Rattle.boards.specs.Settings.{programOf}
 use borrow.Author.Needs.{needs}
 use Rattle.boards.proofs.alike.alike.Statement.{statement}
 use Rattle.boards.proofs.alike.alike.Tie as tie
-use Rattle.records.proofs.same.same_option_u32.Reads as same-option-u32-reads
 
 same-program : (p q : OptionU32) → sameOptionU32 p q ≡ sameProgram (programOf p) (programOf q)
 same-program None None = refl

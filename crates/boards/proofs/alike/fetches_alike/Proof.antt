@@ -1,8 +1,6 @@
 -- `boards::alike::fetches_alike` meets its contract. Assumes nothing.
 use mathlib.Core.Path.{_∙_, ap₂}
 use mathlib.Core.Bool.{Bool, _&&_}
-use mathlib.Core.Option.{Option}
-use Rattle.machine.specs.View.{Source}
 use Rattle.boards.specs.Alike.{sourcesAlike}
 use borrow.Author.Needs.{needs}
 use Rattle.boards.proofs.alike.fetches_alike.Statement.{statement}

@@ -1,7 +1,5 @@
 -- `boards::alike::location_alike` meets its contract. Assumes nothing.
 use mathlib.Core.Path.{_∙_, ap, ap₂, sym}
-use mathlib.Core.Option.{Option}
-use Rattle.machine.specs.View.{Fetch}
 use Rattle.machine.specs.Found.{fetchAt, fetchOf}
 use Rattle.boards.specs.declared.settings.OptionAttribute.{OptionAttribute}
 use Rattle.boards.specs.Alike.{locationAlike}

@@ -1,5 +1,5 @@
 -- `boards::alike::own_source` meets its contract. Assumes nothing.
-use mathlib.Core.Path.{ap, sym}
+use mathlib.Core.Path.{ap}
 use native.Mathlib.Nat.{add-zero}
 use mathlib.Core.Option.{some}
 use Prim.Native.Nat.{ℕ}

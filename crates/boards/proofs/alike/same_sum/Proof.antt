@@ -1,5 +1,4 @@
 -- `boards::alike::same_sum` meets its contract. Assumes nothing.
-use native.Mathlib.Omega.{arith}
 use Rattle.boards.proofs.Sums.{less-first, less-first-no, more-first, more-first-no}
 use Rattle.boards.proofs.Sums.{less-first, less-first-no, more-first, more-first-no}
 use Rattle.boards.proofs.Sums.{less-first, less-first-no, more-first, more-first-no}

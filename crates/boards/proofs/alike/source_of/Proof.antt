@@ -1,8 +1,6 @@
 -- `boards::alike::source_of` meets its contract. Assumes nothing.
 use mathlib.Core.Path.{_∙_, ap, sym}
-use mathlib.Core.Option.{Option}
 use Rattle.records.specs.declared.command.OptionU32.{OptionU32}
-use Rattle.machine.specs.Machine.{VertexBuffer}
 use Rattle.machine.specs.Found.{slotSource, sourceOf}
 use Rattle.boards.specs.declared.settings.OptionVertexBuffer.{OptionVertexBuffer}
 use Rattle.boards.specs.Settings.{bufferIn, bufferOf}

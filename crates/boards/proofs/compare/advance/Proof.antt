@@ -3,11 +3,9 @@ use mathlib.Core.Path.{_∙_, ap, sym}
 use mathlib.Core.Bool.{Bool, cond}
 use Prim.Native.Nat.{_+_}
 use borrow.Author.Tests.{lt-ltb, le-ltb}
-use Rattle.boards.specs.declared.compare.Side.{Side}
 use Rattle.boards.specs.declared.settings.Settings.{Settings}
 use Rattle.boards.specs.Settings.{placed}
 use borrow.Author.Tests.{lt-ltb, le-ltb}
-use Rattle.boards.specs.declared.compare.Side.{Side}
 use Rattle.boards.specs.declared.settings.Settings.{Settings}
 use Rattle.boards.specs.Settings.{placed}
 use borrow.Author.Needs.{needs}

@@ -5,7 +5,6 @@ use mir.Syntax.{w64}
 use denote.Triple.Table.{cited}
 use Rattle.lists.specs.Limits.{handed}
 use Rattle.lists.specs.Survey.{surveyOf}
-use Rattle.boards.specs.declared.compare.Both.{Both}
 use Rattle.boards.specs.Alike.{sameNumber}
 use Rattle.boards.specs.Compared.{compared}
 use Rattle.boards.specs.Side.{noRecord, turnsOf, startOf, turnOf}

@@ -2,9 +2,6 @@
 use borrow.Author.Tests.{eq-eqb, ne-eqb}
 use Rattle.boards.proofs.Turning.{too-many, out-of-range, no-room, as-many, draw-counts}
 use borrow.Author.Tests.{eq-eqb, ne-eqb}
-use Rattle.boards.specs.declared.compare.Compared.{Compared}
-use Rattle.boards.specs.declared.compare.Compared.the-variants.{Equal, TooMany, OutOfRange, NoRoom, DrawCounts}
-use Rattle.boards.proofs.Picked.{at-first, at-second, at-third, at-fourth, at-last}
 use Rattle.boards.proofs.compare.first_answer.Statement.{statement}
 use Rattle.boards.proofs.compare.first_answer.Tie as tie
 

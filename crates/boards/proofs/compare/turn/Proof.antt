@@ -3,7 +3,6 @@ use mathlib.Core.Path.{_∙_, ap, ap₂, sym}
 use mathlib.Core.Bool.{Bool, not, _&&_}
 use Rattle.lists.specs.Class.{draws}
 use Rattle.boards.proofs.Turning.{turn-known, turn-a, turn-b, turn-draws, turn-end}
-use Rattle.boards.proofs.Picked.{at-first, at-second, at-third, at-fourth, at-last}
 use borrow.Author.Needs.{needs}
 use Rattle.boards.proofs.compare.turn.Statement.{statement}
 use Rattle.boards.proofs.compare.turn.Tie as tie

@@ -1,7 +1,7 @@
 -- `lists::limits::survey` meets its contract, by `FoldingFirst.antt`. Assumes nothing.
 use mathlib.Core.Path.{_≡_}
 use mathlib.Core.List.{List}
-use Prim.Native.Nat.{ℕ, min, _+_, _≤_, _<_, _^_}
+use Prim.Native.Nat.{min, _+_, _≤_, _<_, _^_}
 use native.Mathlib.Omega.{arith}
 use lib.ListN.{length}
 use Rattle.records.specs.declared.command.Record.{Record}

@@ -2,8 +2,6 @@
 use borrow.Author.Needs.{needs}
 use Rattle.boards.proofs.settings.Settings.new.Statement.{statement}
 use Rattle.boards.proofs.settings.Settings.new.Tie as tie
-use Rattle.boards.proofs.settings.Location.new.Reads as settings-Location-new-reads
-use Rattle.boards.proofs.settings.Slot.new.Reads as settings-Slot-new-reads
 
 new-requires : tie.Need-new-requires
 new-requires c κs = search needs
