@@ -6,6 +6,7 @@ use Prim.Native.Nat.{ℕ}
 use types.Run.{OneOf}
 use denote.Enum.Declared.{tagOf}
 use Rattle.records.proofs.command.Command.{the-type}
+use Rattle.records.specs.Check.{among}
 use Rattle.records.specs.declared.command.Command.{Command}
 use Rattle.records.specs.declared.command.Command.the-variants.{Draw, DrawIndexed, DrawIndirect, DrawIndexedIndirect, Dispatch, DispatchIndirect, ClearBuffer, CopyBufferToBuffer}
 use Rattle.records.specs.declared.command.Command.the-variants.{SetIndexBuffer, BeginQuery, EndQuery, TimestampQuery, CopyQueryResults, ResetFramebuffer, BindAttachment}
@@ -14,7 +15,7 @@ use Rattle.records.specs.declared.command.Command.the-variants.{ClearStencil, C
 use Rattle.records.specs.declared.command.Command.the-variants.{SetStencilOps, SetDepth, SetDepthBias, ConfigureDepthStencil, SetAlphaToCoverage, SetVertexAttribute}
 use Rattle.records.specs.declared.command.Command.the-variants.{UnsetVertexAttribute, SetVertexBuffer, SetProgram, SetPrimitive, SetBlendConstant, SetColorTarget, BindBuffer}
 use Rattle.records.specs.declared.command.Command.the-variants.{BindSampler, BindTexture, BindImage, PushDebugGroup, PopDebugGroup, SetImmediates, SetClipDistances}
-use Rattle.lists.proofs.Tags.{in?, range, unnamed}
+use Rattle.lists.proofs.Tags.{range, unnamed}
 use Rattle.boards.specs.declared.settings.Settings.{Settings}
 use Rattle.boards.specs.Settings.{placed}
 
@@ -22,7 +23,8 @@ use Rattle.boards.specs.Settings.{placed}
 abbrev setting : List ℕ
 setting = 34 ∷ 35 ∷ 36 ∷ 37 ∷ 39 ∷ []
 
-unset : (s : Settings) (c : Command) → in? (tagOf the-type c) setting ≡ false → s ≡ placed s c
+unset : (s : Settings) (c : Command) → among (tagOf the-type c) setting ≡ false → s ≡ placed s c
+unfolding among
 unset s (Draw t fv vc fi ic l) h = refl
 unset s (DrawIndexed t ty n o bv fi ic l) h = refl
 unset s (DrawIndirect t raw o l) h = refl
@@ -75,4 +77,5 @@ unset s (SetClipDistances old n) h = refl
 
 -- and of the others
 pub sets-none : (s : Settings) (c : Command) → OneOf (range 0 34 ++ (38 ∷ range 40 9)) (tagOf the-type c) → s ≡ placed s c
+unfolding among
 sets-none s c o = unset s c (unnamed setting 0 (range 1 33 ++ (38 ∷ range 40 9)) (tagOf the-type c) refl o)

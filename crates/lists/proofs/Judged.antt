@@ -6,6 +6,7 @@ use Prim.Native.Nat.{ℕ}
 use types.Run.{OneOf}
 use denote.Enum.Declared.{tagOf}
 use Rattle.records.proofs.command.Command.{the-type}
+use Rattle.records.specs.Check.{among}
 use Rattle.records.specs.declared.command.Command.{Command}
 use Rattle.records.specs.declared.command.Command.the-variants.{Draw, DrawIndexed, DrawIndirect, DrawIndexedIndirect, Dispatch, DispatchIndirect, ClearBuffer, CopyBufferToBuffer}
 use Rattle.records.specs.declared.command.Command.the-variants.{SetIndexBuffer, BeginQuery, EndQuery, TimestampQuery, CopyQueryResults, ResetFramebuffer, BindAttachment}
@@ -16,13 +17,14 @@ use Rattle.records.specs.declared.command.Command.the-variants.{UnsetVertexAttr
 use Rattle.records.specs.declared.command.Command.the-variants.{BindSampler, BindTexture, BindImage, PushDebugGroup, PopDebugGroup, SetImmediates, SetClipDistances}
 use Rattle.lists.specs.declared.limits.Used.{Used}
 use Rattle.lists.specs.Limits.{keeps, breaks}
-use Rattle.lists.proofs.Tags.{in?, range, unnamed}
+use Rattle.lists.proofs.Tags.{range, unnamed}
 
 -- the tags, in the order of src/command.rt of `records`, of the commands that can break one
 abbrev judged : List ℕ
 judged = 12 ∷ 14 ∷ 15 ∷ 16 ∷ 17 ∷ 18 ∷ 19 ∷ 20 ∷ 34 ∷ 35 ∷ 36 ∷ 40 ∷ 41 ∷ 42 ∷ 43 ∷ 44 ∷ 45 ∷ 47 ∷ []
 
-unjudged : (u : Used) (c : Command) → in? (tagOf the-type c) judged ≡ false → keeps ≡ breaks u c
+unjudged : (u : Used) (c : Command) → among (tagOf the-type c) judged ≡ false → keeps ≡ breaks u c
+unfolding among
 unjudged u (Draw t fv vc fi ic l) h = refl
 unjudged u (DrawIndexed t ty n o bv fi ic l) h = refl
 unjudged u (DrawIndirect t raw o l) h = refl
@@ -78,4 +80,5 @@ abbrev others : List ℕ
 others = range 0 12 ++ (13 ∷ range 21 13 ++ (37 ∷ 38 ∷ 39 ∷ 46 ∷ 48 ∷ []))
 
 pub keeps-all : (u : Used) (c : Command) → OneOf others (tagOf the-type c) → keeps ≡ breaks u c
+unfolding among
 keeps-all u c o = unjudged u c (unnamed judged 0 (range 1 11 ++ (13 ∷ range 21 13 ++ (37 ∷ 38 ∷ 39 ∷ 46 ∷ 48 ∷ []))) (tagOf the-type c) refl o)
