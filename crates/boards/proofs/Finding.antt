@@ -1,4 +1,4 @@
--- Two lists played side by side give the answer. Assumes nothing.
+-- Two lists played side by side give the answer, whatever the comparison of floats. Assumes nothing.
 use Prim.Native.Nat.{ℕ, zero, suc, _+_, _-_, _≤_, _<_}
 use mathlib.Core.Path.{_≡_, refl, sym, ap, ap₂, _∙_, subst}
 use mathlib.Core.Bool.{Bool, true, false, cond, not, _&&_}
@@ -6,6 +6,7 @@ use mathlib.Core.List.{List, [], _∷_}
 use native.Mathlib.Nat.{not-suc-le-zero, le-of-suc-le-suc, min-eq-left}
 use native.Mathlib.Omega.{arith}
 use lib.Dec.{eqb, ltb}
+use lib.Ieee.{Float}
 use lib.ListN.{length, getD, take, drop, drop-of-length-le}
 use lib.Seq.{drop-cons, getD-take, length-take-le}
 use borrow.Author.Tests.{ltb-true, ltb-false, lt-ltb}
@@ -26,7 +27,7 @@ use Rattle.boards.specs.declared.compare.Compared.{Compared}
 use Rattle.boards.specs.declared.compare.Compared.the-variants.{Equal, Differs, TooMany, OutOfRange, NoRoom, DrawCounts}
 use Rattle.boards.specs.declared.compare.Side.{Side}
 use Rattle.boards.specs.declared.settings.Settings.{Settings}
-use Rattle.boards.specs.Alike.{sameNumber, alike}
+use Rattle.boards.specs.Alike.{alike}
 use Rattle.boards.specs.Compared.{firstOff, refusedOr, drawsOf, compared}
 use Rattle.boards.specs.Settings.{placed, glOf}
 use Rattle.boards.specs.Side.{noRecord, isRefusal, turnsOf, firstSide, startOf, isDraw, hasMore, oneMore, withA, withB, told, moved, turnOf}
@@ -44,12 +45,12 @@ unfolding turns
 turns-still f zero a e = refl
 turns-still f (suc n) a e = ap f (turns-still f n a e) ∙ e
 
-module _ (l k : List Record) where
+module _ (same : Float → Float → Bool) (l k : List Record) where
   abbrev turn : Both → Both
-  turn = reading (λ m. m .a .at) (λ m. m .b .at) turnOf l k noRecord
+  turn = reading (λ m. m .a .at) (λ m. m .b .at) (turnOf same) l k noRecord
 
   stays : (n : ℕ) (m : Both) → m .known ≡ true → turns turn n m ≡ m
-  stays n m e = turns-still turn n m (ap (λ (t : Bool). cond t m (moved m (getD l (m .a .at) noRecord) (getD k (m .b .at) noRecord))) e)
+  stays n m e = turns-still turn n m (ap (λ (t : Bool). cond t m (moved same m (getD l (m .a .at) noRecord) (getD k (m .b .at) noRecord))) e)
 
 -- ---- the used records xs of a lent run l that breaks no limit
 record Held (l xs : List Record) : Type 0 where
@@ -57,14 +58,14 @@ record Held (l xs : List Record) : Type 0 where
   here : (i : ℕ) → i < length xs → drop i xs ≡ getD l i noRecord ∷ drop (i + 1) xs
   sees : (i : ℕ) (s : Settings) (g : Gl) → i < length xs → Sees s g → Sees (placed s (getD l i noRecord .command)) (settingsAfter g (getD l i noRecord .command))
 
-module _ (l xs k ys : List Record) (p : Held l xs) (q : Held k ys) where
+module _ (same : Float → Float → Bool) (l xs k ys : List Record) (p : Held l xs) (q : Held k ys) where
   abbrev shots : Gl → List Record → ℕ → List Shot
   shots g zs i = shotsFrom g (commandsOf (drop i zs))
 
   -- the answer, and how many turns are left
   abbrev value : Bool → Both → Gl → Gl → Compared
   value true m g h = m .answer
-  value false m g h = firstOff sameNumber (m .draws) (shots g xs (m .a .at)) (shots h ys (m .b .at))
+  value false m g h = firstOff same (m .draws) (shots g xs (m .a .at)) (shots h ys (m .b .at))
 
   abbrev left : Bool → Both → ℕ
   left true m = 0
@@ -83,7 +84,7 @@ module _ (l xs k ys : List Record) (p : Held l xs) (q : Held k ys) where
     g′ : Gl
     h′ : Gl
     stands : Stands n g′ h′
-    same : value (n .known) n g′ h′ ≡ value false m g h
+    kept : value (n .known) n g′ h′ ≡ value false m g h
     less : left (n .known) n < left false m
 
   abbrev next : Side → Record → Side
@@ -134,7 +135,7 @@ module _ (l xs k ys : List Record) (p : Held l xs) (q : Held k ys) where
           g′ = g;
           h′ = h;
           stands = record { sees-a = w .sees-a; sees-b = w .sees-b; count-a = w .count-a; count-b = w .count-b; few = w .few };
-          same = e;
+          kept = e;
           less = omega arith;
         }
 
@@ -153,9 +154,9 @@ module _ (l xs k ys : List Record) (p : Held l xs) (q : Held k ys) where
                 count-b = w .count-b;
                 few = omega (arith, w .few);
               };
-          same =
+          kept =
               unknown n gx h refl
-              ∙ ap (λ (z : List Shot). firstOff sameNumber (m .draws) z (shots h ys (m .b .at))) (sym (shots-a e ∙ at-other g (x .command) (commandsOf (drop (m .a .at + 1) xs)) d));
+              ∙ ap (λ (z : List Shot). firstOff same (m .draws) z (shots h ys (m .b .at))) (sym (shots-a e ∙ at-other g (x .command) (commandsOf (drop (m .a .at + 1) xs)) d));
           less = fewer n refl (omega arith);
         }
 
@@ -167,9 +168,9 @@ module _ (l xs k ys : List Record) (p : Held l xs) (q : Held k ys) where
           g′ = g;
           h′ = hy;
           stands = record { sees-a = w .sees-a; sees-b = q .sees (m .b .at) (m .b .settings) h low (w .sees-b); count-a = w .count-a; count-b = w .count-b; few = w .few };
-          same =
+          kept =
               unknown n g hy refl
-              ∙ ap (firstOff sameNumber (m .draws) (shots g xs (m .a .at))) (sym (shots-b e ∙ at-other h (y .command) (commandsOf (drop (m .b .at + 1) ys)) d));
+              ∙ ap (firstOff same (m .draws) (shots g xs (m .a .at))) (sym (shots-b e ∙ at-other h (y .command) (commandsOf (drop (m .b .at + 1) ys)) d));
           less = fewer n refl (omega arith);
         }
 
@@ -181,9 +182,9 @@ module _ (l xs k ys : List Record) (p : Held l xs) (q : Held k ys) where
     one-more n e = ap (λ (t : Bool). cond t (n + 1) n) (lt-ltb n 4096 e) ∙ omega arith
 
     compares : hasMore (m .a) ≡ true → isDraw x ≡ true → hasMore (m .b) ≡ true → isDraw y ≡ true
-        → Went m g h (cond (alike sameNumber (glOf (m .a .settings)) (glOf (m .b .settings))) both (told (Differs (m .draws)) m))
+        → Went m g h (cond (alike same (glOf (m .a .settings)) (glOf (m .b .settings))) both (told (Differs (m .draws)) m))
     unfolding firstOff
-    compares e d e′ d′ = go (alike sameNumber (glOf (m .a .settings)) (glOf (m .b .settings))) refl
+    compares e d e′ d′ = go (alike same (glOf (m .a .settings)) (glOf (m .b .settings))) refl
       where
         low : m .a .at < length xs
         low = more-a e
@@ -192,20 +193,20 @@ module _ (l xs k ys : List Record) (p : Held l xs) (q : Held k ys) where
         low′ = more-b e′
 
         after : Compared
-        after = firstOff sameNumber (suc (m .draws)) (shots gx xs (m .a .at + 1)) (shots hy ys (m .b .at + 1))
+        after = firstOff same (suc (m .draws)) (shots gx xs (m .a .at + 1)) (shots hy ys (m .b .at + 1))
 
         grown : oneMore (m .draws) ≡ suc (m .draws)
         grown = one-more (m .draws) (omega (arith, low, w .few, p .short))
 
-        now : value false m g h ≡ cond (alike sameNumber (glOf (m .a .settings)) (glOf (m .b .settings))) after (Differs (m .draws))
+        now : value false m g h ≡ cond (alike same (glOf (m .a .settings)) (glOf (m .b .settings))) after (Differs (m .draws))
         now =
             let r = at-draw g (x .command) (commandsOf (drop (m .a .at + 1) xs)) d in
             let s = at-draw h (y .command) (commandsOf (drop (m .b .at + 1) ys)) d′ in
-            ap₂ (λ (z v : List Shot). firstOff sameNumber (m .draws) z v) (shots-a e ∙ r .2) (shots-b e′ ∙ s .2)
+            ap₂ (λ (z v : List Shot). firstOff same (m .draws) z v) (shots-a e ∙ r .2) (shots-b e′ ∙ s .2)
             ∙ ap (λ (t : Bool). cond t after (Differs (m .draws)))
-            (ap₂ (λ (z v : Gl). alike sameNumber z v) (r .1) (s .1) ∙ sym (sees-alike sameNumber (m .a .settings) (m .b .settings) g h (w .sees-a) (w .sees-b)))
+            (ap₂ (λ (z v : Gl). alike same z v) (r .1) (s .1) ∙ sym (sees-alike same (m .a .settings) (m .b .settings) g h (w .sees-a) (w .sees-b)))
 
-        go : (t : Bool) → alike sameNumber (glOf (m .a .settings)) (glOf (m .b .settings)) ≡ t → Went m g h (cond t both (told (Differs (m .draws)) m))
+        go : (t : Bool) → alike same (glOf (m .a .settings)) (glOf (m .b .settings)) ≡ t → Went m g h (cond t both (told (Differs (m .draws)) m))
         go true t =
             record {
               g′ = gx;
@@ -218,26 +219,26 @@ module _ (l xs k ys : List Record) (p : Held l xs) (q : Held k ys) where
                     count-b = w .count-b;
                     few = omega (arith, w .few, grown);
                   };
-              same =
-                  unknown both gx hy refl ∙ ap (λ (n : ℕ). firstOff sameNumber n (shots gx xs (m .a .at + 1)) (shots hy ys (m .b .at + 1))) grown
+              kept =
+                  unknown both gx hy refl ∙ ap (λ (n : ℕ). firstOff same n (shots gx xs (m .a .at + 1)) (shots hy ys (m .b .at + 1))) grown
                   ∙ sym (now ∙ ap (λ (b : Bool). cond b after (Differs (m .draws))) t);
               less = fewer both refl (omega (arith, low, low′));
             }
         go false t = tells (Differs (m .draws)) (sym (now ∙ ap (λ (b : Bool). cond b after (Differs (m .draws))) t))
 
-    went : Went m g h (moved m x y)
+    went : Went m g h (moved same m x y)
     unfolding firstOff
     went = go (hasMore (m .a)) refl (isDraw x) refl (hasMore (m .b)) refl (isDraw y) refl
       where
         ends-a : hasMore (m .a) ≡ false → Equal ≡ value false m g h
-        ends-a e = sym (ap (λ (z : List Shot). firstOff sameNumber (m .draws) z (shots h ys (m .b .at))) (done-a e))
+        ends-a e = sym (ap (λ (z : List Shot). firstOff same (m .draws) z (shots h ys (m .b .at))) (done-a e))
 
         go : (s : Bool) → hasMore (m .a) ≡ s → (d : Bool) → isDraw x ≡ d → (t : Bool) → hasMore (m .b) ≡ t → (d′ : Bool) → isDraw y ≡ d′
             → Went m g h
             (cond (s && not d) (withA (cond s (next (m .a) x) (m .a)) m)
             (cond (t && not d′) (withB (cond t (next (m .b) y) (m .b)) m)
             (cond (s && t)
-            (cond (alike sameNumber (glOf (m .a .settings)) (glOf (m .b .settings)))
+            (cond (alike same (glOf (m .a .settings)) (glOf (m .b .settings)))
             (record { a = cond s (next (m .a) x) (m .a); b = cond t (next (m .b) y) (m .b); draws = oneMore (m .draws); known = m .known; answer = m .answer })
             (told (Differs (m .draws)) m))
             (told Equal m))))
@@ -247,13 +248,13 @@ module _ (l xs k ys : List Record) (p : Held l xs) (q : Held k ys) where
         go true e true d true e′ true f′ = compares e d e′ f′
         go true e true d false e′ d′ f′ =
             let s = at-draw g (x .command) (commandsOf (drop (m .a .at + 1) xs)) d in
-            tells Equal (sym (ap₂ (λ (z v : List Shot). firstOff sameNumber (m .draws) z v) (shots-a e ∙ s .2) (done-b e′)))
+            tells Equal (sym (ap₂ (λ (z v : List Shot). firstOff same (m .draws) z v) (shots-a e ∙ s .2) (done-b e′)))
         go false e d c true e′ true f′ = tells Equal (ends-a e)
         go false e d c false e′ d′ f′ = tells Equal (ends-a e)
 
   -- enough turns find it
   abbrev Found : ℕ → Type 0
-  Found n = (m : Both) (g h : Gl) → Stands m g h → left (m .known) m ≤ n → turns (turn l k) n m .answer ≡ value (m .known) m g h
+  Found n = (m : Both) (g h : Gl) → Stands m g h → left (m .known) m ≤ n → turns (turn same l k) n m .answer ≡ value (m .known) m g h
 
   finds-from : (n : ℕ) → Found n
   unfolding turns
@@ -267,15 +268,15 @@ module _ (l xs k ys : List Record) (p : Held l xs) (q : Held k ys) where
       fewer : (i j n : ℕ) → i < j → j ≤ suc n → i ≤ n
       fewer i j n a b = omega arith
 
-      go : (t : Bool) → m .known ≡ t → left t m ≤ suc n → Found n → turns (turn l k) (suc n) m .answer ≡ value t m g h
-      go true e d rest = ap (λ (r : Both). r .answer) (stays l k (suc n) m e)
+      go : (t : Bool) → m .known ≡ t → left t m ≤ suc n → Found n → turns (turn same l k) (suc n) m .answer ≡ value t m g h
+      go true e d rest = ap (λ (r : Both). r .answer) (stays same l k (suc n) m e)
       go false e d rest =
           let by = went m g h w e in
-          let r = moved m (getD l (m .a .at) noRecord) (getD k (m .b .at) noRecord) in
-          ap (λ (z : Both). z .answer) (turns-first (turn l k) n m)
-          ∙ ap (λ (t : Bool). turns (turn l k) n (cond t m r) .answer) e
+          let r = moved same m (getD l (m .a .at) noRecord) (getD k (m .b .at) noRecord) in
+          ap (λ (z : Both). z .answer) (turns-first (turn same l k) n m)
+          ∙ ap (λ (t : Bool). turns (turn same l k) n (cond t m r) .answer) e
           ∙ rest r (by .g′) (by .h′) (by .stands) (fewer (left (r .known) r) (left false m) n (by .less) d)
-          ∙ by .same
+          ∙ by .kept
 
 -- ---- before the first turn
 each-at : (P : Command → Type 0) (zs : List Record) (i : ℕ) → i < length zs → Each P (commandsOf zs) → P (getD zs i noRecord .command)
@@ -318,10 +319,10 @@ module _ (l : List Record) (u : Used) (range : brokenBy (handed l u) .range ≡ 
           ap (λ (x : Record). breaks u (x .command) .range) (sym (reads i h))
           ∙ each-at (λ c. breaks u c .range ≡ false) used i h (each-not (λ c. breaks u c .range) (commandsOf used) range)
 
-pub finds : (l : List Record) (u : Used) (k : List Record) (v : Used)
-    → turns (reading (λ m. m .a .at) (λ m. m .b .at) turnOf l k noRecord) (turnsOf (surveyOf l u) (surveyOf k v)) (startOf (surveyOf l u) (surveyOf k v)) .answer
-    ≡ compared sameNumber (handed l u) (handed k v)
-finds l u k v =
+pub finds : (same : Float → Float → Bool) (l : List Record) (u : Used) (k : List Record) (v : Used)
+    → turns (reading (λ m. m .a .at) (λ m. m .b .at) (turnOf same) l k noRecord) (turnsOf (surveyOf l u) (surveyOf k v)) (startOf (surveyOf l u) (surveyOf k v)) .answer
+    ≡ compared same (handed l u) (handed k v)
+finds same l u k v =
     go (broken .many) (broken .range) refl (broken .room) refl (eqb (drawCount (handed l u .commands)) (drawCount (handed k v .commands)))
     ∙ ap₂ (λ (i j : ℕ). refusedOr broken (cond (eqb i j) first DrawCounts)) (sym (counts freshGl (handed l u .commands))) (sym (counts freshGl (handed k v .commands)))
   where
@@ -329,16 +330,16 @@ finds l u k v =
     broken = eitherBreaks (brokenBy (handed l u)) (brokenBy (handed k v))
 
     first : Compared
-    first = firstOff sameNumber 0 (drawsOf (handed l u)) (drawsOf (handed k v))
+    first = firstOff same 0 (drawsOf (handed l u)) (drawsOf (handed k v))
 
     start : Compared → Both
     start r = record { a = firstSide (surveyOf l u); b = firstSide (surveyOf k v); draws = 0; known = isRefusal r; answer = r }
 
     answer : Compared → Compared
-    answer r = turns (turn l k) (turnsOf (surveyOf l u) (surveyOf k v)) (start r) .answer
+    answer r = turns (turn same l k) (turnsOf (surveyOf l u) (surveyOf k v)) (start r) .answer
 
     refused : (r : Compared) → isRefusal r ≡ true → answer r ≡ r
-    refused r e = ap (λ (m : Both). m .answer) (stays l k (turnsOf (surveyOf l u) (surveyOf k v)) (start r) e)
+    refused r e = ap (λ (m : Both). m .answer) (stays same l k (turnsOf (surveyOf l u) (surveyOf k v)) (start r) e)
 
     plays : broken .range ≡ false → broken .room ≡ false → answer Equal ≡ first
     plays e f =
@@ -348,7 +349,7 @@ finds l u k v =
         let e₂ = or-right range _ e in
         let f₁ = or-left room _ f in
         let f₂ = or-right room _ f in
-        finds-from l (take (u .commands) l) k (take (v .commands) k) (held l u e₁ f₁) (held k v e₂ f₂) (turnsOf (surveyOf l u) (surveyOf k v)) (start Equal) freshGl freshGl
+        finds-from same l (take (u .commands) l) k (take (v .commands) k) (held l u e₁ f₁) (held k v e₂ f₂) (turnsOf (surveyOf l u) (surveyOf k v)) (start Equal) freshGl freshGl
         (record { sees-a = fresh-sees; sees-b = fresh-sees; count-a = sym (long l u e₁ f₁); count-b = sym (long k v e₂ f₂); few = omega arith })
         (omega (arith, long l u e₁ f₁, long k v e₂ f₂, min-eq-left (counted l u e₁ f₁), min-eq-left (counted k v e₂ f₂)))
 

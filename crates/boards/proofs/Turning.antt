@@ -2,6 +2,7 @@
 use mathlib.Core.Path.{_≡_}
 use mathlib.Core.Bool.{Bool, true, false, not, _&&_, _||_}
 use lib.Dec.{eqb}
+use lib.Ieee.{Float}
 use Rattle.records.specs.declared.command.Record.{Record}
 use Rattle.lists.specs.declared.limits.Surveyed.{Surveyed}
 use Rattle.boards.specs.declared.compare.Both.{Both}
@@ -9,7 +10,7 @@ use Rattle.boards.specs.declared.compare.Compared.the-variants.{Equal, T
 use Rattle.boards.specs.Side.{firstAnswer, isDraw, hasMore, advanced, withA, withB, told, atDraws, turnOf}
 use Rattle.boards.proofs.Picked.{at-first, at-second, at-third, at-fourth, at-last}
 
-module _ (m : Both) (x y : Record) where
+module _ (same : Float → Float → Bool) (m : Both) (x y : Record) where
   abbrev pub goesA : Bool
   goesA = hasMore (m .a) && not (isDraw x)
 
@@ -25,20 +26,20 @@ module _ (m : Both) (x y : Record) where
   abbrev onB : Both
   onB = withB (advanced (m .b) y) m
 
-  pub turn-known : m .known ≡ true → m ≡ turnOf m x y
-  turn-known = at-first m onA onB (atDraws m x y) (told Equal m) (m .known) goesA goesB bothMore
+  pub turn-known : m .known ≡ true → m ≡ turnOf same m x y
+  turn-known = at-first m onA onB (atDraws same m x y) (told Equal m) (m .known) goesA goesB bothMore
 
-  pub turn-a : m .known ≡ false → goesA ≡ true → onA ≡ turnOf m x y
-  turn-a = at-second m onA onB (atDraws m x y) (told Equal m) (m .known) goesA goesB bothMore
+  pub turn-a : m .known ≡ false → goesA ≡ true → onA ≡ turnOf same m x y
+  turn-a = at-second m onA onB (atDraws same m x y) (told Equal m) (m .known) goesA goesB bothMore
 
-  pub turn-b : m .known ≡ false → goesA ≡ false → goesB ≡ true → onB ≡ turnOf m x y
-  turn-b = at-third m onA onB (atDraws m x y) (told Equal m) (m .known) goesA goesB bothMore
+  pub turn-b : m .known ≡ false → goesA ≡ false → goesB ≡ true → onB ≡ turnOf same m x y
+  turn-b = at-third m onA onB (atDraws same m x y) (told Equal m) (m .known) goesA goesB bothMore
 
-  pub turn-draws : m .known ≡ false → goesA ≡ false → goesB ≡ false → bothMore ≡ true → atDraws m x y ≡ turnOf m x y
-  turn-draws = at-fourth m onA onB (atDraws m x y) (told Equal m) (m .known) goesA goesB bothMore
+  pub turn-draws : m .known ≡ false → goesA ≡ false → goesB ≡ false → bothMore ≡ true → atDraws same m x y ≡ turnOf same m x y
+  turn-draws = at-fourth m onA onB (atDraws same m x y) (told Equal m) (m .known) goesA goesB bothMore
 
-  pub turn-end : m .known ≡ false → goesA ≡ false → goesB ≡ false → bothMore ≡ false → told Equal m ≡ turnOf m x y
-  turn-end = at-last m onA onB (atDraws m x y) (told Equal m) (m .known) goesA goesB bothMore
+  pub turn-end : m .known ≡ false → goesA ≡ false → goesB ≡ false → bothMore ≡ false → told Equal m ≡ turnOf same m x y
+  turn-end = at-last m onA onB (atDraws same m x y) (told Equal m) (m .known) goesA goesB bothMore
 
 module _ (p q : Surveyed) where
   abbrev many : Bool

@@ -1,7 +1,8 @@
--- Two lists played side by side: the turns of src/compare.rt. Definitions only.
+-- Two lists played side by side: the turns of src/compare.rt, for any comparison of floats. Definitions only.
 use Prim.Native.Nat.{ℕ, _+_, min}
 use mathlib.Core.Bool.{Bool, true, false, cond, not, _&&_}
 use lib.Dec.{eqb, ltb}
+use lib.Ieee.{Float}
 use Rattle.records.specs.declared.command.Command.the-variants.{PopDebugGroup}
 use Rattle.records.specs.declared.command.Record.{Record}
 use Rattle.lists.specs.declared.limits.Surveyed.{Surveyed}
@@ -11,7 +12,7 @@ use Rattle.boards.specs.declared.compare.Both.{Both}
 use Rattle.boards.specs.declared.compare.Compared.{Compared}
 use Rattle.boards.specs.declared.compare.Compared.the-variants.{Equal, Differs, TooMany, OutOfRange, NoRoom, DrawCounts}
 use Rattle.boards.specs.declared.compare.Side.{Side}
-use Rattle.boards.specs.Alike.{sameNumber, alike}
+use Rattle.boards.specs.Alike.{alike}
 use Rattle.boards.specs.Compared.{refusedOr}
 use Rattle.boards.specs.Settings.{freshSettings, placed, glOf}
 
@@ -63,18 +64,18 @@ abbrev pub told : Compared → Both → Both
 told r m = record { a = m .a; b = m .b; draws = m .draws; known = true; answer = r }
 
 -- at two draws they are compared
-abbrev pub atDraws : Both → Record → Record → Both
-atDraws m x y =
-    cond (alike sameNumber (glOf (m .a .settings)) (glOf (m .b .settings)))
+abbrev pub atDraws : (Float → Float → Bool) → Both → Record → Record → Both
+atDraws same m x y =
+    cond (alike same (glOf (m .a .settings)) (glOf (m .b .settings)))
     (record { a = advanced (m .a) x; b = advanced (m .b) y; draws = oneMore (m .draws); known = m .known; answer = m .answer })
     (told (Differs (m .draws)) m)
 
 -- a side that is not at a draw goes on; at an end every draw was alike
-abbrev pub moved : Both → Record → Record → Both
-moved m x y =
+abbrev pub moved : (Float → Float → Bool) → Both → Record → Record → Both
+moved same m x y =
     cond (hasMore (m .a) && not (isDraw x)) (withA (advanced (m .a) x) m)
     (cond (hasMore (m .b) && not (isDraw y)) (withB (advanced (m .b) y) m)
-    (cond (hasMore (m .a) && hasMore (m .b)) (atDraws m x y) (told Equal m)))
+    (cond (hasMore (m .a) && hasMore (m .b)) (atDraws same m x y) (told Equal m)))
 
-abbrev pub turnOf : Both → Record → Record → Both
-turnOf m x y = cond (m .known) m (moved m x y)
+abbrev pub turnOf : (Float → Float → Bool) → Both → Record → Record → Both
+turnOf same m x y = cond (m .known) m (moved same m x y)

@@ -213,7 +213,7 @@ fn tell(m: Both, answer: Compared) -> Both
 
 // Both sides are at a draw.
 fn compare_draws(m: Both, x: Record, y: Record) -> Both
-    ensures { λ r. ⌜ r ≡ atDraws m x y ⌝ }
+    ensures { λ r. ⌜ r ≡ atDraws sameNumber m x y ⌝ }
 {
     let a = m.a;
     let b = m.b;
@@ -256,7 +256,7 @@ fn go_on_b(m: Both, y: Record) -> Both
 // A side that is not at a draw goes on; at two draws they are compared; at an end every draw was
 // alike.
 fn turn(m: Both, x: Record, y: Record) -> Both
-    ensures { λ r. ⌜ r ≡ turnOf m x y ⌝ }
+    ensures { λ r. ⌜ r ≡ turnOf sameNumber m x y ⌝ }
 {
     if m.known {
         return m;

@@ -6,9 +6,6 @@ use lib.ListN.{length, List·getD-eq-default}
 use Rattle.boards.specs.declared.settings.Location.{Location}
 use Rattle.boards.specs.Settings.{noAttribute}
 use Rattle.boards.proofs.Long.{locations-long}
-use Rattle.boards.proofs.Long.{locations-long}
-use Rattle.boards.proofs.Long.{locations-long}
-use Rattle.boards.proofs.Long.{locations-long}
 use borrow.Author.Needs.{needs}
 use Rattle.boards.proofs.alike.attribute_at.Statement.{statement}
 use Rattle.boards.proofs.alike.attribute_at.Tie as tie

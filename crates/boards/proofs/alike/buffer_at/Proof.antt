@@ -6,9 +6,6 @@ use lib.ListN.{length, List·getD-eq-default}
 use Rattle.boards.specs.declared.settings.Slot.{Slot}
 use Rattle.boards.specs.Settings.{noBuffer}
 use Rattle.boards.proofs.Long.{slots-long}
-use Rattle.boards.proofs.Long.{slots-long}
-use Rattle.boards.proofs.Long.{slots-long}
-use Rattle.boards.proofs.Long.{slots-long}
 use borrow.Author.Needs.{needs}
 use Rattle.boards.proofs.alike.buffer_at.Statement.{statement}
 use Rattle.boards.proofs.alike.buffer_at.Tie as tie

@@ -2,9 +2,6 @@
 use mir.Syntax.{w32}
 use mir.Val.{SFits}
 use Rattle.records.proofs.Bits.{same-bits}
-use Rattle.records.proofs.Bits.{same-bits}
-use Rattle.records.proofs.Bits.{same-bits}
-use Rattle.records.proofs.Bits.{same-bits}
 use borrow.Author.Needs.{needs}
 use Rattle.boards.proofs.alike.formats_alike.Statement.{statement}
 use Rattle.boards.proofs.alike.formats_alike.Tie as tie

@@ -1,8 +1,5 @@
 -- `boards::alike::same_number` meets its contract. Assumes nothing.
 use Rattle.boards.proofs.Nans.{number-is}
-use Rattle.boards.proofs.Nans.{number-is}
-use Rattle.boards.proofs.Nans.{number-is}
-use Rattle.boards.proofs.Nans.{number-is}
 use Rattle.boards.proofs.alike.same_number.Statement.{statement}
 use Rattle.boards.proofs.alike.same_number.Tie as tie
 

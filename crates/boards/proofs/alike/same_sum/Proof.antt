@@ -1,8 +1,5 @@
 -- `boards::alike::same_sum` meets its contract. Assumes nothing.
 use Rattle.boards.proofs.Sums.{less-first, less-first-no, more-first, more-first-no}
-use Rattle.boards.proofs.Sums.{less-first, less-first-no, more-first, more-first-no}
-use Rattle.boards.proofs.Sums.{less-first, less-first-no, more-first, more-first-no}
-use Rattle.boards.proofs.Sums.{less-first, less-first-no, more-first, more-first-no}
 use borrow.Author.Needs.{needs}
 use Rattle.boards.proofs.alike.same_sum.Statement.{statement}
 use Rattle.boards.proofs.alike.same_sum.Tie as tie

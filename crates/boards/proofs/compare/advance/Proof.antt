@@ -5,9 +5,6 @@ use Prim.Native.Nat.{_+_}
 use borrow.Author.Tests.{lt-ltb, le-ltb}
 use Rattle.boards.specs.declared.settings.Settings.{Settings}
 use Rattle.boards.specs.Settings.{placed}
-use borrow.Author.Tests.{lt-ltb, le-ltb}
-use Rattle.boards.specs.declared.settings.Settings.{Settings}
-use Rattle.boards.specs.Settings.{placed}
 use borrow.Author.Needs.{needs}
 use Rattle.boards.proofs.compare.advance.Statement.{statement}
 use Rattle.boards.proofs.compare.advance.Tie as tie

@@ -39,7 +39,7 @@ use Rattle.boards.proofs.compare.compare.Statement.{statement}
 use Rattle.boards.proofs.compare.compare.Code as code
 
 abbrev turning : Turn element both
-turning = record { at-a = λ m. m .a .at; at-b = λ m. m .b .at; turn = turnOf }
+turning = record { at-a = λ m. m .a .at; at-b = λ m. m .b .at; turn = turnOf sameNumber }
 
 abbrev comparison : Comparison element used surveyed both answer
 comparison = record {
@@ -50,7 +50,7 @@ comparison = record {
   start = startOf;
   verdict = λ m. m .answer;
   Done = λ l x k y r. r ≡ compared sameNumber (handed l x) (handed k y);
-  does = finds;
+  does = finds sameNumber;
 }
 
 abbrev names : Names

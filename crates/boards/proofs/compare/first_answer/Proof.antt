@@ -1,7 +1,6 @@
 -- `boards::compare::first_answer` meets its contract. Assumes nothing.
 use borrow.Author.Tests.{eq-eqb, ne-eqb}
 use Rattle.boards.proofs.Turning.{too-many, out-of-range, no-room, as-many, draw-counts}
-use borrow.Author.Tests.{eq-eqb, ne-eqb}
 use Rattle.boards.proofs.compare.first_answer.Statement.{statement}
 use Rattle.boards.proofs.compare.first_answer.Tie as tie
 

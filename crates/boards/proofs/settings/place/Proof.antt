@@ -2,9 +2,6 @@
 use mathlib.Core.Path.{_∙_, ap, sym}
 use Rattle.boards.specs.Settings.{placeAttribute, placed}
 use Rattle.boards.proofs.Unset.{sets-none}
-use Rattle.boards.proofs.Unset.{sets-none}
-use Rattle.boards.proofs.Unset.{sets-none}
-use Rattle.boards.proofs.Unset.{sets-none}
 use borrow.Author.Needs.{needs}
 use Rattle.boards.proofs.settings.place.Statement.{statement}
 use Rattle.boards.proofs.settings.place.Tie as tie

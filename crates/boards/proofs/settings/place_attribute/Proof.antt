@@ -3,8 +3,6 @@ use mathlib.Core.Path.{ap, sym}
 use mathlib.Core.Bool.{Bool, cond}
 use lib.ListN.{set}
 use borrow.Author.Tests.{lt-ltb, le-ltb}
-use borrow.Author.Tests.{lt-ltb, le-ltb}
-use borrow.Author.Tests.{lt-ltb, le-ltb}
 use borrow.Author.Needs.{needs}
 use Rattle.boards.proofs.settings.place_attribute.Statement.{statement}
 use Rattle.boards.proofs.settings.place_attribute.Tie as tie

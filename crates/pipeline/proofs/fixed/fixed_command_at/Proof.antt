@@ -6,11 +6,6 @@ use Rattle.records.specs.declared.command.Command.the-variants.{SetDepthBias, C
 use Rattle.pipeline.specs.Fixed.{aspectsOf}
 use Rattle.pipeline.specs.declared.plan.FixedPlan.{FixedPlan}
 use Rattle.pipeline.proofs.Ladder as ladder
-use Prim.Native.Nat.{_-_}
-use mathlib.Core.Path.{ap}
-use Rattle.records.specs.declared.command.Command.the-variants.{SetDepthBias, ConfigureDepthStencil, SetAlphaToCoverage, SetClipDistances}
-use Rattle.pipeline.specs.declared.plan.FixedPlan.{FixedPlan}
-use Rattle.pipeline.proofs.Ladder as ladder
 use Rattle.pipeline.proofs.fixed.fixed_command_at.Statement.{statement}
 use Rattle.pipeline.proofs.fixed.fixed_command_at.Tie as tie
 
