@@ -6,7 +6,8 @@
 --         verdict(m)
 --     }
 -- where `survey` gives a value of a list and of plain data, as an instance of `FoldingFirst.antt` does, `look` is as `Reading.antt` has it, and the other callees are functions of plain data
--- that require nothing. Its MIR (`function`) meets every contract that follows (`Comparison`). All types are any types of plain data.
+-- that require nothing. Its MIR (`function`) meets every contract that follows (`Comparison`), which may use that each element of both lists is of its type. All types are any types
+-- of plain data.
 -- Assumes `Given`, and that the callees meet their contracts.
 use mathlib.Core.Path.{_≡_, refl, sym, _∙_, ap, subst}
 use mathlib.Core.Logic.{⊎-elim}
@@ -54,7 +55,7 @@ use denote.Triple.Walked.{says, Stays, stay-none-slice, stay-none, walkOf, goes-
 use denote.Exit.{yes}
 use denote.Signature.{Signature, plain, shrSlice}
 use Rattle.walks.proofs.Args.{Datum, row, uint, Dens, goes}
-use Rattle.list_walks.proofs.Elements.{Element, word, Good, good}
+use Rattle.list_walks.proofs.Elements.{Element, word, Good, good, Goods, list-goods}
 use native.Mathlib.Numerals.{add-one}
 use Rattle.list_walks.specs.Turns.{turns, reading}
 use Rattle.walks.proofs.Slices.{rend, calls-reads}
@@ -95,7 +96,7 @@ pub record Comparison (𝓔 : Element) (X S D Vd : Datum) : Type 2 where
   pub start : S .D → S .D → D .D
   pub verdict : D .D → Vd .D
   pub Done : List (𝓔 .R .D) → X .D → List (𝓔 .R .D) → X .D → Vd .D → Type 0
-  pub does : (l : List (𝓔 .R .D)) (x : X .D) (k : List (𝓔 .R .D)) (y : X .D)
+  pub does : (l : List (𝓔 .R .D)) (x : X .D) (k : List (𝓔 .R .D)) (y : X .D) → Goods (𝓔 .R) l → Goods (𝓔 .R) k
       → Done l x k y (verdict (turns (reading (turn .at-a) (turn .at-b) (turn .turn) l k none) (turns-of (surveyed l x) (surveyed k y)) (start (surveyed l x) (surveyed k y))))
 
 pub record Names : Type 0 where
@@ -247,8 +248,8 @@ module _ (𝓔 : Element) (X S D Vd : Datum) (T : Comparison 𝓔 X S D Vd) (f :
     Post = walkOf 𝓤 H A (ended 𝓔 X S D Vd) (stayed 𝓔 X S D Vd) (clauses 𝓔 X S D Vd T 𝓤) .post (((κ, (κ′, tt)), (q, (q₂, tt)), tt, a, vals), tt)
 
     module _ (room : Room R (length xs)) (room₂ : Room R (length ys)) (g₁ : Good X x) (g₂ : Good X y) where
-      done-it : (r : Vd .D) → r ≡ T .verdict (acc n) → T .Done xs x ys y r
-      done-it r e = subst (T .Done xs x ys y) (sym e) (T .does xs x ys y)
+      done-it : Goods (𝓔 .R) xs → Goods (𝓔 .R) ys → (r : Vd .D) → r ≡ T .verdict (acc n) → T .Done xs x ys y r
+      done-it gs gs′ r e = subst (T .Done xs x ys y) (sym e) (T .does xs x ys y gs gs′)
 
       exits : (r : Vd .D) (u : Val) → Is (row Vd) r (u ∷ []) → T .Done xs x ys y r → ent 𝓤 (⋆ 𝓤 H A (‵ (flft κ q) ∷ ‵ (flft κ′ q₂) ∷ mine₁ ∷ mine₂ ∷ [])) (Post u)
       exits r u is dn =
@@ -305,7 +306,7 @@ module _ (𝓔 : Element) (X S D Vd : Datum) (T : Comparison 𝓔 X S D Vd) (f :
             ∷ ‵ (froom (Vd .ty) l₀ 0) ∷ ‵ (fdies (Vd .ty) l₀) ∷ []
 
       module _ (𝓣 : Tables 𝓤 H) (known : Known 𝓔 X S D Vd T f 𝓤 H A (𝓣 .C)) where
-        module _ (gd : Good (𝓔 .R) d) (n-fits : n < 2 ^ 64) (g : Good D c) (l₀ l₁ l₂ l₃ l₄ l₅ l₆ l₇ l₈ l₉ l₁₀ l₁₁ l₁₂ l₁₃ l₁₄ l₁₅ : ℕ) where
+        module _ (gs : Goods (𝓔 .R) xs) (gs′ : Goods (𝓔 .R) ys) (gd : Good (𝓔 .R) d) (n-fits : n < 2 ^ 64) (g : Good D c) (l₀ l₁ l₂ l₃ l₄ l₅ l₆ l₇ l₈ l₉ l₁₀ l₁₁ l₁₂ l₁₃ l₁₄ l₁₅ : ℕ) where
           -- the loop, and what follows it
           loops-on : Seq Go W (At l₀ l₁ l₂ l₃ l₄ l₅ l₆ l₇ l₈ l₉ l₁₀ l₁₁ l₁₂ l₁₃ l₁₄ l₁₅ (0, zero-le, begins g))
               (runs (𝓣 .C) (𝓣 .Λ) (En l₀ l₁ l₂ l₃ l₄ l₅ l₆ l₇ l₈ l₉ l₁₀ l₁₁ l₁₂ l₁₃ l₁₄ l₁₅)
@@ -329,7 +330,7 @@ module _ (𝓔 : Element) (X S D Vd : Datum) (T : Comparison 𝓔 X S D Vd) (f :
               free1 ! $ move ! (24 ∷ 25 ∷ []) $ free1 ! $ move ! (22 ∷ 23 ∷ []) $ free1 ! $ move ! (20 ∷ 21 ∷ []) $ free1 ! $ move ! (18 ∷ 19 ∷ []) $ free1 ! $
               move ! (16 ∷ 17 ∷ []) $ free1 ! $ move ! (14 ∷ 15 ∷ []) $ free1 ! $ move ! (12 ∷ 13 ∷ []) $ free1 ! $ move ! (10 ∷ 11 ∷ []) $ free1 ! $
               move ! (8 ∷ 9 ∷ []) $ free1 ! $ move ! (6 ∷ 7 ∷ []) $ free1 ! $ move ! (4 ∷ 5 ∷ []) $ free1 ! $ free0 ! $
-              by ! (exits r u is (done-it r (e ∙ ap (λ (m : ℕ). T .verdict (acc m)) past))))) (λ less.
+              by ! (exits r u is (done-it gs gs′ r (e ∙ ap (λ (m : ℕ). T .verdict (acc m)) past))))) (λ less.
               rewrite ! 4 (λ (u : Bool). ‵ (fat fullShare tyBool l₁₅ 0 (vbool u))) (lt-ltb (i .0) n less) refl $
               stays ! (load ! (from ! (stop !)) (look ! 4 refl)) $
               calls-of ! 𝓣 (D ∷ []) (uint w64) (λ m. T .turn .at-a (m .0)) (known .known-a) (acc (i .0), tt) (i .2, tt)
@@ -387,7 +388,11 @@ module _ (𝓔 : Element) (X S D Vd : Datum) (T : Comparison 𝓔 X S D Vd) (f :
             -- [the second token; true; the first; b; the others; a; _15; …]
             keep ! (2 ∷ 0 ∷ 5 ∷ 3 ∷ 6 ∷ 7 ∷ 8 ∷ 9 ∷ 10 ∷ 11 ∷ 12 ∷ 13 ∷ 14 ∷ 15 ∷ 16 ∷ 17 ∷ 18 ∷ 19 ∷ 20 ∷ 21 ∷
             22 ∷ 23 ∷ 24 ∷ 25 ∷ 26 ∷ 27 ∷ 28 ∷ 29 ∷ 30 ∷ 31 ∷ 32 ∷ 33 ∷ 34 ∷ 35 ∷ 36 ∷ 37 ∷ []) $
-            -- [the first token; the second; a; b; _15 4; …], and a copy of a is passed
+            -- [the first token; the second; a; b; _15 4; …]: each list shows that its elements are of their type
+            move ! (0 ∷ 2 ∷ []) $ list-goods ! (𝓔 .R) tt (named 0) κ q x₁ s₁ _ (λ gs.
+            move ! (2 ∷ 3 ∷ []) $ list-goods ! (𝓔 .R) tt (named 1) κ′ q₂ x₂ s₂ _ (λ gs′.
+            move ! (2 ∷ 0 ∷ 3 ∷ 1 ∷ []) $
+            -- a copy of a is passed
             move ! (2 ∷ []) $ use1 W (mine₁ ⊛ mine₁) (shr-slice-copy 𝓤 H A W (named 0) κ R .twice x₁ (s₁ ∷ [])) $ split ! $ move ! (2 ∷ 0 ∷ []) $
             calls-reads ! (fmOf 𝓤 H (W .laws) 𝓣) R (plain (λ _. row X) ∷ []) (plain (λ _. row S)) (yes, tt) (survey-clauses 𝓔 X S (T .surveyed) 𝓤) (known .known-survey) κ q
             (X .makes 𝓤 H A W, tt) (named 0) x₁ s₁ (x, tt) (v₁ ∷ [], tt) (g₁, tt) tt (id⊢ 𝓤 (emp 𝓤)) (λ r. r ≡ p₁) (λ r ws. id⊢ 𝓤 _)
@@ -417,8 +422,8 @@ module _ (𝓔 : Element) (X S D Vd : Datum) (T : Comparison 𝓔 X S D Vd) (f :
             land ! (from ! (stop !)) (init ! 16 refl (D .typed 𝓤 H A W z _ is-z)) $
             rewrite ! 16 (λ (m : Val). ‵ (fat fullShare (D .ty) l₉ 0 m)) (ap only (D .tells z (uz ∷ []) is-z) ∙ ap (D .val) e-z) refl $
             assigns ! (of-opd ! (lit ! tt)) (from ! (stop !)) (init ! 14 refl (tt, record { fits = lit< tt })) $
-            loops-on (subst (Good (𝓔 .R)) e (good (𝓔 .R) r u is)) (subst (λ (m : ℕ). m < 2 ^ 64) e-k (is-k .1))
-            (subst (Good D) e-z (good D z uz is-z)) l₀ l₁ l₂ l₃ l₄ l₅ l₆ l₇ l₈ l₉ l₁₀ l₁₁ l₁₂ l₁₃ l₁₄ l₁₅)))))))))))))))))))))
+            loops-on gs gs′ (subst (Good (𝓔 .R)) e (good (𝓔 .R) r u is)) (subst (λ (m : ℕ). m < 2 ^ 64) e-k (is-k .1))
+            (subst (Good D) e-z (good D z uz is-z)) l₀ l₁ l₂ l₃ l₄ l₅ l₆ l₇ l₈ l₉ l₁₀ l₁₁ l₁₂ l₁₃ l₁₄ l₁₅)))))))))))))))))))))))
 
   module _ (𝓣 : Tables 𝓤 H) (known : Known 𝓔 X S D Vd T f 𝓤 H A (𝓣 .C)) where
     meets : Meets 𝓤 H A (signature 𝓔 X S D Vd) (WpFn 𝓤 H (𝓣 .C) (𝓣 .Λ) (function 𝓔 X S D Vd f)) (closing 𝓤 H A (ended 𝓔 X S D Vd) (clauses 𝓔 X S D Vd T 𝓤))
