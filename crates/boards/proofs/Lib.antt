@@ -1,6 +1,7 @@
 pub mod Long
-pub mod Nans
 pub mod Sums
+pub mod Floats
+pub mod Remain
 pub mod Unset
 pub mod Data
 pub mod Picked
@@ -9,4 +10,5 @@ pub mod Sees
 pub mod Drawn
 pub mod Finding
 pub mod Numbered
+pub mod Lent
 pub mod Examples

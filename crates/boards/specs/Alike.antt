@@ -1,10 +1,12 @@
 -- When two draws fetch alike: document 02 §3, "by each attribute location set and not unset in the list without layout, the buffer, first byte, stride, step and format,
 -- and besides these the program and the blend constants". Read off the machines that the draws find (machine/specs/Found.antt). Definitions only.
 use Prim.Native.Nat.{ℕ, zero, suc}
+use mathlib.Core.Path.{_≡_}
 use mathlib.Core.Bool.{Bool, true, false, _&&_, _||_}
 use mathlib.Core.Option.{Option, none, some}
 use lib.Dec.{eqb}
 use lib.Ieee.{Float, eq, isNan}
+use Rattle.numbers.specs.Convert.{bits32}
 use Rattle.records.specs.Same.{sameInt}
 use Rattle.records.specs.declared.command.ColorF32.{ColorF32}
 use Rattle.records.specs.declared.command.VertexAttribKind.{VertexAttribKind}
@@ -16,9 +18,21 @@ use Rattle.machine.specs.View.{Source, Fetch}
 use Rattle.machine.specs.Machine.{Gl}
 use Rattle.machine.specs.Found.{fetchAt}
 
--- "Floats compare as numbers, NaN equal to NaN": by IEEE 754, 5.11, minus zero is equal to zero and a NaN to nothing
+-- ---- comparisons of floats
+-- document 02 §12: "floats are now alike only if their bits are, so a NaN is alike only to itself with the same bits". The bits are the printed ones (`bits32`).
+-- The language has one NaN, whose bits are 7fc00000: the bits that a NaN had before it became an `f32` here are no part of it
+abbrev pub sameBits : Float → Float → Bool
+sameBits x y = eqb (bits32 x) (bits32 y)
+
+-- §3, before §12: "Floats compare as numbers, NaN equal to NaN": by IEEE 754, 5.11, minus zero is equal to zero and a NaN to nothing
 abbrev pub sameNumber : Float → Float → Bool
 sameNumber x y = eq x y || (isNan x && isNan y)
+
+-- a float is like itself, as by both of these
+abbrev pub Reflexive : (Float → Float → Bool) → Type 0
+Reflexive same = (x : Float) → same x x ≡ true
+
+-- ---- what two draws find
 
 -- the four blend constants, by a comparison of floats
 abbrev pub sameColor : (Float → Float → Bool) → ColorF32 → ColorF32 → Bool

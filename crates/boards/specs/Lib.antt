@@ -1,4 +1,5 @@
 pub mod Alike
 pub mod Compared
+pub mod Remains
 pub mod Settings
 pub mod Side

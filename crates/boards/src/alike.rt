@@ -6,12 +6,13 @@ ghost use lib.Dec.{eqb};
 ghost use mathlib.Core.Option.{none};
 ghost use Rattle.records.specs.declared.command.OptionU32.the-variants.{Some};
 ghost use Rattle.machine.specs.Found.{slotSource, sourceOf, fetchAt};
-ghost use Rattle.boards.specs.Alike.{sameNumber, sameColor, sameStep, sameKind, formatsAlike, sourcesAlike, locationAlike, allBelow, alike as alikeOf};
+ghost use Rattle.boards.specs.Alike.{sameBits, sameColor, sameStep, sameKind, formatsAlike, sourcesAlike, locationAlike, allBelow, alike as alikeOf};
 ghost use Rattle.boards.specs.Settings.{attributeIn, bufferIn, bufferOf, verticesOf, glOf, sourceIs, attributeSource, fetchIn};
 use crate::settings::Attribute;
 use crate::settings::OptionAttribute;
 use crate::settings::OptionVertexBuffer;
 use crate::settings::Settings;
+use numbers::bits32;
 use records::command::ColorF32;
 use records::command::OptionU32;
 use records::command::VertexAttribKind;
@@ -37,18 +38,18 @@ pub enum OptionSource {
     Some(Source),
 }
 
-// As numbers, a NaN like a NaN.
-pub fn same_number(x: f32, y: f32) -> bool
-    ensures { λ r. ⌜ r ≡ sameNumber x y ⌝ }
+// By their bits; those of every NaN are 7fc00000.
+pub fn same_bits(x: f32, y: f32) -> bool
+    ensures { λ r. ⌜ r ≡ sameBits x y ⌝ }
 {
-    (x == y) | ((x != x) & (y != y))
+    bits32(x) == bits32(y)
 }
 
 fn same_color(x: ColorF32, y: ColorF32) -> bool
-    ensures { λ r. ⌜ r ≡ sameColor sameNumber x y ⌝ }
+    ensures { λ r. ⌜ r ≡ sameColor sameBits x y ⌝ }
 {
-    same_number(x.r, y.r)
-        & (same_number(x.g, y.g) & (same_number(x.b, y.b) & same_number(x.a, y.a)))
+    same_bits(x.r, y.r)
+        & (same_bits(x.g, y.g) & (same_bits(x.b, y.b) & same_bits(x.a, y.a)))
 }
 
 fn same_step(x: VertexStepMode, y: VertexStepMode) -> bool
@@ -238,7 +239,7 @@ fn locations_alike(x: Settings, y: Settings) -> bool
 
 // Whether two draws fetch alike, the first of the list with layout, the second of the one without.
 pub fn alike(x: Settings, y: Settings) -> bool
-    ensures { λ r. ⌜ r ≡ alikeOf sameNumber (glOf x) (glOf y) ⌝ }
+    ensures { λ r. ⌜ r ≡ alikeOf sameBits (glOf x) (glOf y) ⌝ }
 {
     let p = x.program;
     let q = y.program;

@@ -2,8 +2,9 @@
 ghost use mathlib.Core.Path.{_≡_};
 ghost use lib.ListN.{getD};
 ghost use Rattle.lists.specs.Limits.{handed};
-ghost use Rattle.boards.specs.Alike.{sameNumber};
-ghost use Rattle.boards.specs.Compared.{number, compared};
+ghost use Rattle.boards.specs.Alike.{sameBits};
+ghost use Rattle.boards.specs.Compared.{number};
+ghost use Rattle.boards.specs.Remains.{Answered};
 ghost use Rattle.boards.specs.Side.{noRecord, firstAnswer, isRefusal, turnsOf, firstSide, startOf, hasMore, advanced, oneMore, withA, withB, told, atDraws, turnOf};
 use crate::alike::alike;
 use crate::settings::Settings;
@@ -213,7 +214,7 @@ fn tell(m: Both, answer: Compared) -> Both
 
 // Both sides are at a draw.
 fn compare_draws(m: Both, x: Record, y: Record) -> Both
-    ensures { λ r. ⌜ r ≡ atDraws sameNumber m x y ⌝ }
+    ensures { λ r. ⌜ r ≡ atDraws sameBits m x y ⌝ }
 {
     let a = m.a;
     let b = m.b;
@@ -256,7 +257,7 @@ fn go_on_b(m: Both, y: Record) -> Both
 // A side that is not at a draw goes on; at two draws they are compared; at an end every draw was
 // alike.
 fn turn(m: Both, x: Record, y: Record) -> Both
-    ensures { λ r. ⌜ r ≡ turnOf sameNumber m x y ⌝ }
+    ensures { λ r. ⌜ r ≡ turnOf sameBits m x y ⌝ }
 {
     if m.known {
         return m;
@@ -291,7 +292,7 @@ fn answer_of(m: Both) -> Compared
 // Whether each draw of the two lists fetches alike: `a` is the list with vertex buffer layout, `b`
 // the one without, each with how much of its runs is used.
 pub fn compare(a: &[Record], used_a: Used, b: &[Record], used_b: Used) -> Compared
-    ensures { λ r. ⌜ r ≡ compared sameNumber (handed (now (a .entry)) «used_a») (handed (now (b .entry)) «used_b») ⌝ }
+    ensures { λ r. ⌜ Answered (handed (now (a .entry)) «used_a») (handed (now (b .entry)) «used_b») r ⌝ }
 {
     let p = survey(a, used_a);
     let q = survey(b, used_b);

@@ -1,12 +1,12 @@
--- `boards::compare::compare` meets its contract, by `ComparingAll.antt`: what its loop finds is the answer (`finds`). Assumes nothing.
-use mathlib.Core.Path.{_≡_}
+-- `boards::compare::compare` meets its contract, by `ComparingAll.antt`: what its loop finds is the answer (`finds`), and by the types of the lent records what was unequal is so
+-- (`still-unequal`). Assumes nothing.
 use mathlib.Core.List.{[], _∷_}
 use mir.Syntax.{w64}
 use denote.Triple.Table.{cited}
 use Rattle.lists.specs.Limits.{handed}
 use Rattle.lists.specs.Survey.{surveyOf}
-use Rattle.boards.specs.Alike.{sameNumber}
-use Rattle.boards.specs.Compared.{compared}
+use Rattle.boards.specs.Alike.{sameBits}
+use Rattle.boards.specs.Remains.{Answered}
 use Rattle.boards.specs.Side.{noRecord, turnsOf, startOf, turnOf}
 use Rattle.walks.proofs.Args.{uint}
 use Rattle.list_walks.proofs.Called.{of-contract}
@@ -18,6 +18,8 @@ use Rattle.lists.proofs.limits.survey.Symbol as survey
 use Rattle.lists.proofs.limits.survey.Met as survey-thm
 use Rattle.boards.proofs.Data.{both, answer}
 use Rattle.boards.proofs.Finding.{finds}
+use Rattle.boards.proofs.Lent.{finds-f32}
+use Rattle.boards.proofs.Remain.{answered}
 use Rattle.boards.proofs.compare.no_record.Symbol as no-record
 use Rattle.boards.proofs.compare.no_record.Met as no-record-thm
 use Rattle.boards.proofs.compare.turns_of.Symbol as turns-of
@@ -39,7 +41,7 @@ use Rattle.boards.proofs.compare.compare.Statement.{statement}
 use Rattle.boards.proofs.compare.compare.Code as code
 
 abbrev turning : Turn element both
-turning = record { at-a = λ m. m .a .at; at-b = λ m. m .b .at; turn = turnOf sameNumber }
+turning = record { at-a = λ m. m .a .at; at-b = λ m. m .b .at; turn = turnOf sameBits }
 
 abbrev comparison : Comparison element used surveyed both answer
 comparison = record {
@@ -49,8 +51,8 @@ comparison = record {
   turns-of = turnsOf;
   start = startOf;
   verdict = λ m. m .answer;
-  Done = λ l x k y r. r ≡ compared sameNumber (handed l x) (handed k y);
-  does = finds sameNumber;
+  Done = λ l x k y r. Answered (handed l x) (handed k y) r;
+  does = λ l x k y g h. answered (handed l x) (handed k y) (finds-f32 l x g) (finds-f32 k y h) _ (finds sameBits l x k y);
 }
 
 abbrev names : Names

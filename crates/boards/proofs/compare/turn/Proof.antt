@@ -2,14 +2,14 @@
 use mathlib.Core.Path.{_∙_, ap, ap₂, sym}
 use mathlib.Core.Bool.{Bool, not, _&&_}
 use Rattle.lists.specs.Class.{draws}
-use Rattle.boards.specs.Alike.{sameNumber}
+use Rattle.boards.specs.Alike.{sameBits}
 use Rattle.boards.proofs.Turning.{turn-known, turn-a, turn-b, turn-draws, turn-end}
 use borrow.Author.Needs.{needs}
 use Rattle.boards.proofs.compare.turn.Statement.{statement}
 use Rattle.boards.proofs.compare.turn.Tie as tie
 
 returns : tie.Need-returns
-returns c = turn-known sameNumber (c .before .args .m) (c .before .args .x) (c .before .args .y) (c .if1 .taken)
+returns c = turn-known sameBits (c .before .args .m) (c .before .args .x) (c .before .args .y) (c .if1 .taken)
 
 has-more-requires : tie.Need-has-more-requires
 has-more-requires c κs = search needs
@@ -37,7 +37,7 @@ returns-2 c =
     let c9 = c6 .before .before .before in
     let c10 = c9 .before in
     c .go-on-a .ensures
-    ∙ turn-a sameNumber (c10 .args .m) (c10 .args .x) (c10 .args .y) (c9 .if1 .left)
+    ∙ turn-a sameBits (c10 .args .m) (c10 .args .x) (c10 .args .y) (c9 .if1 .left)
     (sym (ap₂ (λ (p q : Bool). p && not q) (c6 .has-more .ensures) (c2 .is-draw .ensures ∙ ap draws (c4 .class-of .ensures))) ∙ c .before .if2 .taken)
 
 is-draw-requires-2 : tie.Need-is-draw-requires-2
@@ -58,7 +58,7 @@ returns-3 c =
     let c11 = c8 .before .before .before in
     let c12 = c11 .before in
     c .go-on-b .ensures
-    ∙ turn-b sameNumber (c12 .args .m) (c12 .args .x) (c12 .args .y) (c11 .if1 .left)
+    ∙ turn-b sameBits (c12 .args .m) (c12 .args .x) (c12 .args .y) (c11 .if1 .left)
     (sym (ap₂ (λ (p q : Bool). p && not q) (c8 .has-more .ensures) (c4 .is-draw .ensures ∙ ap draws (c6 .class-of .ensures))) ∙ c3 .if2 .left)
     (sym (ap₂ (λ (p q : Bool). p && not q) (c7 .has-more2 .ensures) (c2 .is-draw2 .ensures ∙ ap draws (c5 .class-of2 .ensures))) ∙ c .before .if3 .taken)
 
@@ -78,7 +78,7 @@ returns-4 c =
     let c12 = c9 .before .before .before in
     let c13 = c12 .before in
     c .compare-draws .ensures
-    ∙ turn-draws sameNumber (c13 .args .m) (c13 .args .x) (c13 .args .y) (c12 .if1 .left)
+    ∙ turn-draws sameBits (c13 .args .m) (c13 .args .x) (c13 .args .y) (c12 .if1 .left)
     (sym (ap₂ (λ (p q : Bool). p && not q) (c9 .has-more .ensures) (c5 .is-draw .ensures ∙ ap draws (c7 .class-of .ensures))) ∙ c4 .if2 .left)
     (sym (ap₂ (λ (p q : Bool). p && not q) (c8 .has-more2 .ensures) (c3 .is-draw2 .ensures ∙ ap draws (c6 .class-of2 .ensures))) ∙ c2 .if3 .left)
     (sym (ap₂ (λ (p q : Bool). p && q) (c9 .has-more .ensures) (c8 .has-more2 .ensures)) ∙ c .before .if4 .taken)
@@ -99,7 +99,7 @@ returns-5 c =
     let c12 = c9 .before .before .before in
     let c13 = c12 .before in
     c .tell .ensures
-    ∙ turn-end sameNumber (c13 .args .m) (c13 .args .x) (c13 .args .y) (c12 .if1 .left)
+    ∙ turn-end sameBits (c13 .args .m) (c13 .args .x) (c13 .args .y) (c12 .if1 .left)
     (sym (ap₂ (λ (p q : Bool). p && not q) (c9 .has-more .ensures) (c5 .is-draw .ensures ∙ ap draws (c7 .class-of .ensures))) ∙ c4 .if2 .left)
     (sym (ap₂ (λ (p q : Bool). p && not q) (c8 .has-more2 .ensures) (c3 .is-draw2 .ensures ∙ ap draws (c6 .class-of2 .ensures))) ∙ c2 .if3 .left)
     (sym (ap₂ (λ (p q : Bool). p && q) (c9 .has-more .ensures) (c8 .has-more2 .ensures)) ∙ c .before .if4 .left)

@@ -1,0 +1,42 @@
+-- "Whatever was unequal remains unequal" (document 02 §12): what §3's comparison of floats (`sameNumber`) answers of two lists, and what §12's (`sameBits`) does. Definitions only.
+use Prim.Native.Nat.{ℕ, _≤_}
+use mathlib.Core.Path.{_≡_}
+use mathlib.Core.Bool.{Bool}
+use lib.Dec.{T}
+use lib.Ieee.{Float, binary32, fits, eq, ofBits}
+use Rattle.records.specs.declared.command.ColorF32.{ColorF32}
+use Rattle.machine.specs.Each.{Each}
+use Rattle.machine.specs.Machine.{Shot}
+use Rattle.lists.specs.Limits.{Handed}
+use Rattle.boards.specs.declared.compare.Compared.{Compared}
+use Rattle.boards.specs.declared.compare.Compared.the-variants.{Equal, Differs, TooMany, OutOfRange, NoRoom, DrawCounts}
+use Rattle.boards.specs.Alike.{sameBits, sameNumber}
+use Rattle.boards.specs.Compared.{number, drawsOf, compared}
+
+-- a first draw that differs remains, or an earlier one is; a refusal remains the same, and an answer about draws is no refusal
+abbrev pub Remains : Compared → Compared → Type 0
+Remains Equal r = number r ≡ 0
+Remains (Differs k) r = (j : ℕ) × (j ≤ k) × (r ≡ Differs j)
+Remains TooMany r = r ≡ TooMany
+Remains OutOfRange r = r ≡ OutOfRange
+Remains NoRoom r = r ≡ NoRoom
+Remains DrawCounts r = r ≡ DrawCounts
+
+-- what `compare` promises of its answer r: it is §12's, and what was unequal by §3 is so
+abbrev pub Answered : Handed → Handed → Compared → Type 0
+Answered a b r = (r ≡ compared sameBits a b) × Remains (compared sameNumber a b) r
+
+-- a value of the type `f32`: the logic has one type for the floats of all formats
+abbrev pub IsF32 : Float → Type 0
+IsF32 x = T (fits binary32 x)
+
+abbrev pub ColorIsF32 : ColorF32 → Type 0
+ColorIsF32 c = IsF32 (c .r) × IsF32 (c .g) × IsF32 (c .b) × IsF32 (c .a)
+
+-- the blend constants that each draw of a list finds are: so it is of every lent run, since no record can hold others
+abbrev pub FindsF32 : Handed → Type 0
+FindsF32 l = Each (λ (s : Shot). ColorIsF32 (s .gl .screen .blend)) (drawsOf l)
+
+-- zero or minus zero
+abbrev pub isZero : Float → Bool
+isZero x = eq x (ofBits binary32 0)
