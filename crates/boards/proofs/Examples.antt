@@ -1,11 +1,12 @@
--- Worked rows of the comparison: two lists and their answer, by computation. Assumes nothing.
+-- Worked rows of the comparison: two lists and their answer, by computation, by §12's comparison of floats and by §3's. Assumes nothing.
 use Prim.Native.Nat.{ℕ, _-_, _^_}
 use mathlib.Core.Path.{_≡_, refl}
 use mathlib.Core.Bool.{false}
 use mathlib.Core.List.{List, [], _∷_, map}
-use lib.Ieee.{binary32, ofBits, eq, isNan}
-use lib.IntN.{pos}
+use lib.Ieee.{fin, binary32, toBits, ofBits, eq, isNan, fits}
+use lib.IntN.{pos, negsuc}
 use lib.ListN.{length}
+use Rattle.numbers.specs.Convert.{bits32}
 use Rattle.records.specs.Check.{some?}
 use Rattle.records.specs.declared.command.AttributeDesc.{AttributeDesc}
 use Rattle.records.specs.declared.command.Command.{Command}
@@ -19,8 +20,10 @@ use Rattle.lists.specs.Shots.{shotsFrom}
 use Rattle.lists.specs.Limits.{Handed}
 use Rattle.boards.specs.declared.compare.Compared.{Compared}
 use Rattle.boards.specs.declared.compare.Compared.the-variants.{Equal, Differs, TooMany, OutOfRange, NoRoom, DrawCounts}
-use Rattle.boards.specs.Alike.{sameNumber, allBelow}
+use Rattle.boards.specs.Alike.{sameBits, sameNumber, allBelow}
 use Rattle.boards.specs.Compared.{firstOff, compared}
+use Rattle.boards.specs.Remains.{Remains}
+use Rattle.boards.proofs.Remain.{still-unequal}
 
 -- ---- commands
 abbrev d : Command
@@ -45,9 +48,15 @@ slotted slot raw offset = SetVertexBuffer slot (record { raw = raw; offset = off
 abbrev own : ℕ → ℕ → ℕ → ℕ → Command
 own location slot raw offset = SetVertexAttribute (Some raw) by8 (at location slot offset)
 
--- blend constants whose alpha has these bits
+-- blend constants with these bits
+abbrev blend : ℕ → ℕ → ℕ → ℕ → Command
+blend r g b a = SetBlendConstant (record { r = ofBits binary32 r; g = ofBits binary32 g; b = ofBits binary32 b; a = ofBits binary32 a })
+
 abbrev alpha : ℕ → Command
-alpha bits = SetBlendConstant (record { r = ofBits binary32 0; g = ofBits binary32 0; b = ofBits binary32 0; a = ofBits binary32 bits })
+alpha bits = blend 0 0 0 bits
+
+abbrev minus : ℕ
+minus = 0x8000_0000
 
 -- ---- lists
 -- with marker bytes and queries, in a run of `room` records
@@ -60,14 +69,19 @@ plain cs = list (length cs) 0 0 cs
 pub record Row : Type 0 where
   pub a : Handed
   pub b : Handed
+  pub was : Compared
   pub is : Compared
 
+-- the answer by §3 and by §12
+abbrev changed : List Command → List Command → Compared → Compared → Row
+changed a b r s = record { a = plain a; b = plain b; was = r; is = s }
+
 abbrev row : List Command → List Command → Compared → Row
-row a b r = record { a = plain a; b = plain b; is = r }
+row a b r = changed a b r r
 
 -- the same list on both sides
 abbrev alone : Handed → Compared → Row
-alone l r = record { a = l; b = l; is = r }
+alone l r = record { a = l; b = l; was = r; is = r }
 
 abbrev pub rows : List Row
 rows =
@@ -94,11 +108,25 @@ rows =
     -- the program, on one side and on both
     ∷ row (SetProgram 5 ∷ d ∷ []) (d ∷ []) (Differs 0)
     ∷ row (SetProgram 5 ∷ d ∷ []) (SetProgram 5 ∷ d ∷ []) Equal
-    -- floats as numbers: minus zero is zero, a NaN is like a NaN, and one is not two
-    ∷ row (alpha 0x8000_0000 ∷ d ∷ []) (d ∷ []) Equal
-    ∷ row (alpha 0x7fc0_0000 ∷ d ∷ []) (alpha 0x7fc0_0001 ∷ d ∷ []) Equal
+    -- minus zero is the number zero, and has other bits: in each of the four, on either side; it is like itself
+    ∷ changed (blend minus 0 0 0 ∷ d ∷ []) (d ∷ []) Equal (Differs 0)
+    ∷ changed (blend 0 minus 0 0 ∷ d ∷ []) (d ∷ []) Equal (Differs 0)
+    ∷ changed (blend 0 0 minus 0 ∷ d ∷ []) (d ∷ []) Equal (Differs 0)
+    ∷ changed (blend 0 0 0 minus ∷ d ∷ []) (d ∷ []) Equal (Differs 0)
+    ∷ changed (d ∷ []) (alpha minus ∷ d ∷ []) Equal (Differs 0)
+    ∷ row (alpha minus ∷ d ∷ []) (alpha minus ∷ d ∷ []) Equal
+    -- it is found before a draw that differed already; other numbers of draws are found before it
+    ∷ changed (alpha minus ∷ d ∷ SetProgram 5 ∷ d ∷ []) (d ∷ d ∷ []) (Differs 1) (Differs 0)
+    ∷ row (alpha minus ∷ d ∷ []) (d ∷ d ∷ []) DrawCounts
+    -- a NaN is like a NaN, and like no number: there is one, whatever bits it was made of
+    ∷ row (alpha 0x7fc0_0000 ∷ d ∷ []) (alpha 0x7fc0_0000 ∷ d ∷ []) Equal
+    ∷ row (alpha 0x7fc0_0000 ∷ d ∷ []) (alpha 0xffc0_0001 ∷ d ∷ []) Equal
     ∷ row (alpha 0x7fc0_0000 ∷ d ∷ []) (d ∷ []) (Differs 0)
+    -- one is one, and not two; the least number above zero is not zero; infinities have signs
+    ∷ row (alpha 0x3f80_0000 ∷ d ∷ []) (alpha 0x3f80_0000 ∷ d ∷ []) Equal
     ∷ row (alpha 0x3f80_0000 ∷ d ∷ []) (alpha 0x4000_0000 ∷ d ∷ []) (Differs 0)
+    ∷ row (alpha 1 ∷ d ∷ []) (d ∷ []) (Differs 0)
+    ∷ row (alpha 0x7f80_0000 ∷ d ∷ []) (alpha 0xff80_0000 ∷ d ∷ []) (Differs 0)
     -- draws are counted from 0, over all render passes
     ∷ row (ResetFramebuffer false ∷ d ∷ ResetFramebuffer false ∷ SetProgram 5 ∷ d ∷ []) (ResetFramebuffer false ∷ d ∷ ResetFramebuffer false ∷ d ∷ []) (Differs 1)
     -- 9 before a draw that differs
@@ -130,6 +158,24 @@ rows =
     ∷ row (PushDebugGroup (record { start = 0; end = 5 }) ∷ d ∷ []) [] NoRoom
     ∷ []
 
-pub worked : map (λ (r : Row). compared sameNumber (r .a) (r .b)) rows ≡ map (λ (r : Row). r .is) rows
-unfolding firstOff shotsFrom allBelow some? eq isNan ofBits
+pub worked : map (λ (r : Row). compared sameBits (r .a) (r .b)) rows ≡ map (λ (r : Row). r .is) rows
+unfolding firstOff shotsFrom allBelow some? bits32 toBits ofBits
 worked = refl
+
+pub worked-before : map (λ (r : Row). compared sameNumber (r .a) (r .b)) rows ≡ map (λ (r : Row). r .was) rows
+unfolding firstOff shotsFrom allBelow some? eq isNan ofBits
+worked-before = refl
+
+-- ---- the premise of `still-unequal`
+-- it holds of lists with zeros of both signs
+remains-here : Remains (Differs 1) (Differs 0)
+unfolding firstOff shotsFrom allBelow some? bits32 toBits eq isNan ofBits fits
+remains-here = still-unequal (plain (alpha minus ∷ d ∷ SetProgram 5 ∷ d ∷ [])) (plain (d ∷ d ∷ [])) (((tt, tt, tt, tt), ((tt, tt, tt, tt), tt))) (((tt, tt, tt, tt), ((tt, tt, tt, tt), tt)))
+
+-- and it is needed: 2 to the -200 is no `f32`, and the bits of the nearest one below it are zero's
+abbrev tiny : Command
+tiny = SetBlendConstant (record { r = fin false 1 (negsuc 199); g = ofBits binary32 0; b = ofBits binary32 0; a = ofBits binary32 0 })
+
+f32-needed : (compared sameNumber (plain (tiny ∷ d ∷ [])) (plain (d ∷ [])) ≡ Differs 0) × (compared sameBits (plain (tiny ∷ d ∷ [])) (plain (d ∷ [])) ≡ Equal)
+unfolding firstOff shotsFrom allBelow some? bits32 toBits eq isNan ofBits
+f32-needed = (refl, refl)

@@ -48,8 +48,7 @@ pub fn same_bits(x: f32, y: f32) -> bool
 fn same_color(x: ColorF32, y: ColorF32) -> bool
     ensures { λ r. ⌜ r ≡ sameColor sameBits x y ⌝ }
 {
-    same_bits(x.r, y.r)
-        & (same_bits(x.g, y.g) & (same_bits(x.b, y.b) & same_bits(x.a, y.a)))
+    same_bits(x.r, y.r) & (same_bits(x.g, y.g) & (same_bits(x.b, y.b) & same_bits(x.a, y.a)))
 }
 
 fn same_step(x: VertexStepMode, y: VertexStepMode) -> bool

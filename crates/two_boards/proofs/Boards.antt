@@ -30,11 +30,10 @@ use Rattle.machine.proofs.Lists.{false-true}
 use Rattle.book.specs.Book.{Entered, Book, topologyBy, locationBy, typeOf, sizeOf, enterDraw, enter, Fed, enterFed, bookOf}
 use Rattle.book.specs.Run.{Premises}
 use Rattle.boards.specs.declared.compare.Compared.the-variants.{Equal, Differs}
-use Rattle.boards.specs.Alike.{sameColor, sameStep, sameKind, formatsAlike, sourcesAlike, locationAlike, sameProgram, allBelow, alike}
+use Rattle.boards.specs.Alike.{Reflexive, sameColor, sameStep, sameKind, formatsAlike, sourcesAlike, locationAlike, sameProgram, allBelow, alike}
 use Rattle.boards.specs.Compared.{firstOff}
 use Rattle.order.proofs.Invariant.{Agree, Bare}
 use Rattle.two_boards.specs.Late.{late, lateDraws}
-use Rattle.two_boards.specs.Claim.{Reflexive}
 
 -- ---- each test holds of a thing and itself
 both : (a b : Bool) → a ≡ true → b ≡ true → a && b ≡ true

@@ -16,11 +16,11 @@ use Rattle.book.specs.Run.{beginning, record-calls, fed, Premises}
 use Rattle.lists.specs.declared.limits.Breaks.{Breaks}
 use Rattle.lists.specs.Limits.{keeps, eitherBreaks, Handed, brokenBy}
 use Rattle.boards.specs.declared.compare.Compared.the-variants.{Equal, DrawCounts}
+use Rattle.boards.specs.Alike.{Reflexive}
 use Rattle.boards.specs.Compared.{firstOff, byDraws, refusedOr, drawsOf, compared}
 use Rattle.order.proofs.Invariant.{Agree}
 use Rattle.order.proofs.Induction.{Right, all-calls, as-many}
 use Rattle.two_boards.specs.Late.{lateDraws}
-use Rattle.two_boards.specs.Claim.{Reflexive}
 use Rattle.two_boards.proofs.Noted.{AllNoted, noted-empty}
 use Rattle.two_boards.proofs.FirstPass.{all-noted}
 use Rattle.two_boards.proofs.Boards.{none-off, same-book, same-premises, same-late}

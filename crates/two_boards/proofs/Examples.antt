@@ -1,4 +1,5 @@
--- The premises of `two-boards` hold together, of a draw that fetches by instance; and where one board emulates instancing and the other does not, the same draw fetches differently.
+-- The premises of `two-boards` hold together, of a draw that fetches by instance, with minus zero and a NaN among the blend constants; and each is needed: that both boards emulate
+-- instancing or both do not, that no draw follows the first pass, and that a float is like itself.
 -- Worked out by computation. Assumes nothing.
 use Prim.Native.Nat.{ℕ, zero, suc, _<_}
 use mathlib.Core.Path.{_≡_, refl, sym, ap, _∙_, subst}
@@ -6,13 +7,14 @@ use mathlib.Core.Bool.{Bool, true, false, cond}
 use mathlib.Core.List.{List, [], _∷_}
 use mathlib.Core.Option.{Option, none, some}
 use native.Mathlib.Omega.{arith}
-use lib.Ieee.{eq, isNan, ofBits}
+use lib.Ieee.{binary32, toBits, ofBits, eq}
 use lib.IntN.{pos}
 use lib.ListN.{getD, replicate}
 use borrow.Author.Tests.{le-ltb}
 use Rattle.tables.specs.Tabulate.{tabulate, upd}
 use Rattle.mask.specs.Mask.{testBit, bitAt, setBit, without, maskOf, placesFrom}
 use Rattle.mask.specs.By.{maskBy}
+use Rattle.numbers.specs.Convert.{bits32}
 use Rattle.names.specs.declared.wgt.FrontFace.the-variants.{Ccw}
 use Rattle.names.specs.declared.wgt.CullMode.the-variants as cull
 use Rattle.names.specs.declared.wgt.PolygonMode.the-variants.{Fill}
@@ -22,6 +24,7 @@ use Rattle.records.specs.Outcome.{smallest}
 use Rattle.records.specs.Start.{startAttribute, startDepthBias, startImmediate, startState, startTarget}
 use Rattle.records.specs.declared.check.Rooms.{Rooms}
 use Rattle.records.specs.declared.command.BufferBinding.{BufferBinding}
+use Rattle.records.specs.declared.command.ColorF32.{ColorF32}
 use Rattle.records.specs.declared.command.OptionU32.the-variants.{None}
 use Rattle.records.specs.declared.command.VertexAttribKind.the-variants.{Float}
 use Rattle.records.specs.declared.command.VertexStepMode.the-variants.{Instance}
@@ -40,7 +43,7 @@ use Rattle.pipeline.specs.Vertex.{noLayout}
 use Rattle.pipeline.specs.Fixed.{sameTargets}
 use Rattle.pass.specs.Marks.{Lent}
 use Rattle.pass.specs.Render.{noPlace, attachColors, resolvesFrom, invalidations, clearColors, beginRenderCommands}
-use Rattle.calls.specs.Call.{Call, begin-encoding, begin-render-pass, end-render-pass, set-render-pipeline, set-vertex-buffer, draw}
+use Rattle.calls.specs.Call.{Call, begin-encoding, begin-render-pass, end-render-pass, set-render-pipeline, set-vertex-buffer, set-blend-constants, draw}
 use Rattle.calls.specs.Step.{outcomeOf}
 use Rattle.machine.proofs.Lists.{false-true}
 use Rattle.lists.specs.Limits.{Handed}
@@ -48,12 +51,11 @@ use Rattle.lists.specs.Shots.{shotsFrom}
 use Rattle.book.specs.Book.{Fed, empty, given, describes, known}
 use Rattle.book.specs.Run.{carried, record-calls, fed, Premises, begun}
 use Rattle.boards.specs.declared.compare.Compared.the-variants.{Equal, Differs}
-use Rattle.boards.specs.Alike.{sameNumber, allBelow}
+use Rattle.boards.specs.Alike.{sameBits, allBelow}
 use Rattle.boards.specs.Compared.{firstOff, compared}
 use Rattle.recorded.specs.Recorded.{recordedOf}
 use Rattle.two_boards.specs.Late.{lateDraws}
-use Rattle.two_boards.proofs.Theorem.{two-boards}
-use Rattle.two_boards.proofs.Handed.{number-self}
+use Rattle.two_boards.proofs.Theorem.{two-boards-by-bits}
 
 -- with layout or without, with instancing or emulating it
 abbrev board : Bool → Bool → PrivateCapabilities
@@ -112,12 +114,17 @@ pipeline =
       «alpha_to_coverage_enabled» = false;
     }
 
+-- minus zero, a NaN, zero and one
+abbrev constants : ColorF32
+constants = record { r = ofBits binary32 0x8000_0000; g = ofBits binary32 0x7fc0_0000; b = ofBits binary32 0; a = ofBits binary32 0x3f80_0000 }
+
 -- buffer 7 from byte 16 on; one triangle, from instance 5 on
 abbrev calls : List Call
 calls =
     begin-render-pass plainPass (record { present = false; bytes = lentNone }) lentNone
     ∷ set-vertex-buffer 0 7 16
     ∷ set-render-pipeline pipeline
+    ∷ set-blend-constants constants
     ∷ draw 0 3 5 1
     ∷ []
 
@@ -149,28 +156,34 @@ bound f x (suc i) l h =
 
 premises : (layouts instancing : Bool) → Premises (board layouts instancing) empty (allAccepted calls)
 unfolding Premises
-premises layouts instancing = ((λ e. tt), ((λ e. tt), ((λ e. tt), ((λ e st. record { pipeline = pipeline; is = refl; bound = bound _ _ }), tt))))
+premises layouts instancing = ((λ e. tt), ((λ e. tt), ((λ e. tt), ((λ e. tt), ((λ e st. record { pipeline = pipeline; is = refl; bound = bound _ _ }), tt)))))
 
 in-first : (layouts instancing : Bool) → lateDraws (board layouts instancing) empty false (allAccepted calls) ≡ false
 unfolding lateDraws
 in-first layouts instancing = refl
 
 -- so the theorem says something of them
-equal-here : compared sameNumber (recorded (board true false) calls) (recorded (board false false) calls) ≡ Equal
+equal-here : compared sameBits (recorded (board true false) calls) (recorded (board false false) calls) ≡ Equal
 equal-here =
     let a = accepts true false in
     let b = accepts false false in
-    two-boards sameNumber number-self (board true false) (board false false) refl refl rooms rooms startState startState calls (begins true false) (begins false false)
+    two-boards-by-bits (board true false) (board false false) refl refl rooms rooms startState startState calls (begins true false) (begins false false)
     (a ∙ sym b) (subst (Premises (board true false) empty) (sym a) (premises true false)) (ap (lateDraws (board true false) empty false) a ∙ in-first true false)
 
 -- ---- the premise on instancing is needed: all others hold of these two, and draw 0 fetches from byte 20 on the one board and from byte 60 on the other
 others-hold : fed (board true true) rooms (begun (board true true) rooms startState .state) calls ≡ fed (board false false) rooms (begun (board false false) rooms startState .state) calls
 others-hold = accepts true true ∙ sym (accepts false false)
 
-differs-here : compared sameNumber (recorded (board true true) calls) (recorded (board false false) calls) ≡ Differs 0
-unfolding record-calls shotsFrom firstOff allBelow eq isNan ofBits outcomeOf smallest some? badUnits among twice tabulate testBit bitAt setBit without maskOf placesFrom maskBy
+differs-here : compared sameBits (recorded (board true true) calls) (recorded (board false false) calls) ≡ Differs 0
+unfolding record-calls shotsFrom firstOff allBelow bits32 toBits ofBits outcomeOf smallest some? badUnits among twice tabulate testBit bitAt setBit without maskOf placesFrom maskBy
     bufferCommands sentOf attributeCommands samplerCommands changedUnits sameTargets beginRenderCommands attachColors clearColors resolvesFrom invalidations
 differs-here = refl
+
+-- ---- that a float is like itself is needed: by IEEE 754's `=` the NaN differs, on these two boards
+not-by-equality : compared eq (recorded (board true false) calls) (recorded (board false false) calls) ≡ Differs 0
+unfolding record-calls shotsFrom firstOff allBelow eq ofBits outcomeOf smallest some? badUnits among twice tabulate testBit bitAt setBit without maskOf placesFrom maskBy
+    bufferCommands sentOf attributeCommands samplerCommands changedUnits sameTargets beginRenderCommands attachColors clearColors resolvesFrom invalidations
+not-by-equality = refl
 
 -- ---- and so is that on the draws: a second pass, whose draw follows a buffer that was set after the first pass's draw. A pass's end leaves no slot dirty
 abbrev passes : List Call
@@ -212,7 +225,7 @@ passes-late : lateDraws (board true false) empty false (allAccepted passes) ≡ 
 unfolding lateDraws
 passes-late = refl
 
-passes-differ : compared sameNumber (recorded (board true false) passes) (recorded (board false false) passes) ≡ Differs 1
-unfolding record-calls shotsFrom firstOff allBelow eq isNan ofBits outcomeOf smallest some? badUnits among twice tabulate testBit bitAt setBit without maskOf placesFrom maskBy
+passes-differ : compared sameBits (recorded (board true false) passes) (recorded (board false false) passes) ≡ Differs 1
+unfolding record-calls shotsFrom firstOff allBelow bits32 toBits ofBits outcomeOf smallest some? badUnits among twice tabulate testBit bitAt setBit without maskOf placesFrom maskBy
     bufferCommands sentOf attributeCommands samplerCommands changedUnits sameTargets beginRenderCommands attachColors clearColors resolvesFrom invalidations
 passes-differ = refl

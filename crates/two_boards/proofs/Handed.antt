@@ -1,11 +1,7 @@
--- What `compare` hands back about two such lists, by its contract, is `Equal`: document 02 §3 compares floats as numbers (`sameNumber`). Assumes nothing.
-use Prim.Native.Nat.{ℕ, _*_}
-use mathlib.Core.Path.{_≡_, refl, ap, _∙_}
-use mathlib.Core.Bool.{Bool, true, false, _&&_, _||_}
+-- What `compare` hands back about two such lists, by its contract (`Answered`), is `Equal`. Assumes nothing.
+use mathlib.Core.Path.{_≡_, _∙_}
+use mathlib.Core.Bool.{false}
 use mathlib.Core.List.{List}
-use lib.Dec.{eqb}
-use lib.Ieee.{nan, inf, fin, up, down, eq, isNan}
-use borrow.Author.Tests.{eq-eqb}
 use Rattle.records.specs.declared.outcome.Outcome.the-variants.{Done}
 use Rattle.records.specs.declared.pipeline.PrivateCapabilities.{PrivateCapabilities}
 use Rattle.records.specs.declared.state.Answer.{Answer}
@@ -18,30 +14,16 @@ use Rattle.book.specs.Ran.{Ran, answers}
 use Rattle.lists.specs.Limits.{handed}
 use Rattle.boards.specs.declared.compare.Compared.{Compared}
 use Rattle.boards.specs.declared.compare.Compared.the-variants.{Equal}
-use Rattle.boards.specs.Alike.{sameNumber}
-use Rattle.boards.specs.Compared.{compared}
+use Rattle.boards.specs.Remains.{Answered}
 use Rattle.recorded.specs.Recorded.{usedOf}
 use Rattle.two_boards.specs.Late.{lateDraws}
-use Rattle.two_boards.specs.Claim.{Reflexive}
-use Rattle.two_boards.proofs.OfRun.{two-boards-of-run}
-
-level-self : (n : ℕ) → (eqb n n && true) || false ≡ true
-level-self n = ap (λ (t : Bool). (t && true) || false) (eq-eqb n n refl)
-
--- a NaN is like itself, and so is every number
-pub number-self : Reflexive sameNumber
-unfolding eq isNan
-number-self nan = refl
-number-self (inf true) = refl
-number-self (inf false) = refl
-number-self (fin true m e) = level-self (m * up e * down e)
-number-self (fin false m e) = level-self (m * up e * down e)
+use Rattle.two_boards.proofs.OfRun.{two-boards-of-run-by-bits}
 
 pub answer-equal : (caps caps′ : PrivateCapabilities) → caps .«fully_featured_instancing» ≡ caps′ .«fully_featured_instancing» → caps′ .«vertex_buffer_layout» ≡ false
     → (s₀ t₀ s′ t′ : State) (r₀ r r′ q₀ q q′ : Runs) (a b : Answer) (calls : List Call)
     → Did caps s₀ r₀ begin-encoding a r → a .outcome ≡ Done → (R : Ran caps (a .state) r calls s′ r′)
     → Did caps′ t₀ q₀ begin-encoding b q → b .outcome ≡ Done → (Q : Ran caps′ (b .state) q calls t′ q′)
     → answers R ≡ answers Q → Premises caps empty (answers R) → lateDraws caps empty false (answers R) ≡ false
-    → (o : Compared) → o ≡ compared sameNumber (handed (r′ .commands) (usedOf (s′ .progress))) (handed (q′ .commands) (usedOf (t′ .progress))) → o ≡ Equal
+    → (o : Compared) → Answered (handed (r′ .commands) (usedOf (s′ .progress))) (handed (q′ .commands) (usedOf (t′ .progress))) o → o ≡ Equal
 answer-equal caps caps′ alike flat s₀ t₀ s′ t′ r₀ r r′ q₀ q q′ a b calls d e R d′ e′ Q x P l o c =
-    c ∙ two-boards-of-run sameNumber number-self caps caps′ alike flat s₀ t₀ s′ t′ r₀ r r′ q₀ q q′ a b calls d e R d′ e′ Q x P l
+    c .0 ∙ two-boards-of-run-by-bits caps caps′ alike flat s₀ t₀ s′ t′ r₀ r r′ q₀ q q′ a b calls d e R d′ e′ Q x P l

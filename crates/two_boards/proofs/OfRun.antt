@@ -11,11 +11,13 @@ use Rattle.book.specs.Book.{empty}
 use Rattle.book.specs.Run.{Recording, beginning, record-calls, fed, Premises}
 use Rattle.book.specs.Ran.{Ran, answers, commandsOf}
 use Rattle.lists.specs.Limits.{handed}
+use Rattle.boards.specs.Alike.{sameBits}
+use Rattle.boards.proofs.Floats.{bits-self}
 use Rattle.order.proofs.OfRun.{Begun, begun-run, answers-are, ran-begun}
 use Rattle.recorded.specs.Recorded.{usedOf}
 use Rattle.recorded.proofs.Fits.{recorded-fits-of-run}
 use Rattle.two_boards.specs.Late.{lateDraws}
-use Rattle.two_boards.specs.Claim.{TwoBoardsOfRun}
+use Rattle.two_boards.specs.Claim.{TwoBoardsOfRunBy, TwoBoardsOfRun}
 use Rattle.two_boards.proofs.Equal.{equal-recorded}
 
 list-of : (caps : PrivateCapabilities) {s′ : State} {r r′ : Runs} {a : Answer} {calls : List Call} → Begun caps r a → Ran caps (a .state) r calls s′ r′
@@ -40,3 +42,6 @@ two-boards-of-run same h caps caps′ alike flat s₀ t₀ s′ t′ r₀ r r′
 
     gs : answers Q ≡ fed caps′ (roomsOf q) (b .state) calls
     gs = answers-are caps′ Q (C .within)
+
+pub two-boards-of-run-by-bits : TwoBoardsOfRunBy sameBits
+two-boards-of-run-by-bits = two-boards-of-run sameBits bits-self
