@@ -19,6 +19,7 @@ BATCH = 250  # seeds whose pairs are held in memory at a time
 EDITED = 3   # edited pairs of a seed
 FULL = ["4096", "65536", "1024"]
 WANTED = ("equal", "draw 0", "draw above 0", "refused 2", "refused 3", "refused 7", "refused 9")
+CHANGED = ("were equal", "were unequal at a later draw")  # pairs whose answer request 12 changed
 PAIRS = {"the same calls": 5, "the same calls, other flags": 2, "the second without one call": 3, "two sessions": 1}
 
 
@@ -125,7 +126,8 @@ def pair(source, mine, other):
 class Comparison:
     """The program's answers against the model's: counts, and the first that differs."""
     def __init__(self, program):
-        self.program, self.answers, self.kinds, self.differ, self.told, self.commands = program, collections.Counter(), collections.Counter(), 0, None, 0
+        self.program, self.differ, self.told, self.commands = program, 0, None, 0
+        self.answers, self.kinds, self.changed = collections.Counter(), collections.Counter(), collections.Counter()
 
     def run(self, asked):
         """Pairs (seed, kind, text); answers their lists."""
@@ -142,13 +144,15 @@ class Comparison:
         return [lists for lists, _ in got]
 
     def hold(self, one, lists, line):
-        expected = model.answer(*lists)
+        expected, before = model.answers(*lists)
         self.commands += sum(len(given.lines) for given in lists)
         self.answers[line if line in WANTED or not line.startswith("draw ") else "draw above 0"] += 1
         self.kinds[one[1]] += 1
-        if line != expected:
+        if line != before:
+            self.changed[CHANGED[before != "equal"]] += 1
+        if line != expected or not model.remains(before, line):
             self.differ += 1
-            self.told = self.told or f"seed {one[0]}, {one[1]}\n  the model:   {expected}\n  the program: {line}\n  {kept(*one)}"
+            self.told = self.told or f"seed {one[0]}, {one[1]}\n  the model:   {expected}, before request 12: {before}\n  the program: {line}\n  {kept(*one)}"
 
 
 def kept(seed, kind, text):
@@ -190,8 +194,10 @@ def main():
     of = lambda counter: ", ".join(f"{name} {n}" for name, n in sorted(counter.items()))
     print(f"pairs {sum(comparison.answers.values())}, commands {comparison.commands}, differences {comparison.differ}")
     print(f"answers: {of(comparison.answers)}")
+    print(f"changed by request 12: {of(comparison.changed)}")
     print(f"pairs by kind: {of(comparison.kinds)}")
     bad = [f"no pair is answered with {answer}" for answer in WANTED if not comparison.answers[answer]]
+    bad += [f"no pairs {change} before request 12 and are not now" for change in CHANGED if not comparison.changed[change]]
     bad += [f"no pair is {kind}" for kind in [*PAIRS, *(f"edited: {kind}" for kind in edits.KINDS)] if not comparison.kinds[kind]]
     for fault in bad + [comparison.told] * (comparison.differ > 0):
         print(f"boards: {fault}", file=sys.stderr)

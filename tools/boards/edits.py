@@ -115,16 +115,27 @@ def before_a_draw(source, one, other):
     return found
 
 
+def constants(source, side, other, one_of_each, others):
+    """Blend constants of both lists before one draw: one of the four, at random, is each list's own, and the rest are some of others, the same in both."""
+    at = source.randrange(4)
+    rest = [source.choice(others) for _ in range(4)]
+    lines = []
+    for one, bits, places in zip((side, other), one_of_each, before_a_draw(source, side, other)):
+        lines += [one.put(place, "SetBlendConstant " + " ".join(rest[:at] + [bits] + rest[at + 1:])) for place in places[:1]]
+    return lines
+
+
 def floats(source, side, other):
     """Blend constants of both lists, alike but for one of the four."""
     x, y = source.choice(((ZERO, MINUS), (MINUS, ZERO), (source.choice(NANS), source.choice(NANS)), (source.choice(NANS), ONE), (ZERO, source.choice(NANS)),
                           (ONE, NEXT), (ZERO, TINY), (INFINITE, "ff800000"), (INFINITE, INFINITE), (ONE, ONE), (INFINITE, source.choice(NANS))))
-    at = source.randrange(4)
-    rest = [source.choice((ZERO, ONE, NANS[0])) for _ in range(4)]
-    lines = []
-    for one, bits, places in zip((side, other), (x, y), before_a_draw(source, side, other)):
-        lines += [one.put(place, "SetBlendConstant " + " ".join(rest[:at] + [bits] + rest[at + 1:])) for place in places[:1]]
-    return lines
+    return constants(source, side, other, (x, y), (ZERO, ONE, NANS[0]))
+
+
+def zeros(source, side, other):
+    """Blend constants of both lists, alike but for the sign of a zero; mostly another command is changed too, at that draw or elsewhere."""
+    lines = constants(source, side, other, source.choice(((ZERO, MINUS), (MINUS, ZERO))), (ZERO, MINUS, ONE, NANS[0]))
+    return lines + (fetch(source, *source.choice(((side, other), (other, side)))) if source.random() < 0.7 else [])
 
 
 def fresh(source, side, other):
@@ -222,9 +233,9 @@ def draws(source, side, other):
     return lines
 
 
-KINDS = {"limit": limit, "free": free, "two limits": two_limits, "ranges": ranges, "counts": counts, "past count": past_count, "floats": floats,
+KINDS = {"limit": limit, "free": free, "two limits": two_limits, "ranges": ranges, "counts": counts, "past count": past_count, "floats": floats, "zeros": zeros,
          "fresh": fresh, "both": both, "fetch": fetch, "moved": moved, "unset": unset, "draws": draws}
-WEIGHTS = (13, 2, 4, 8, 6, 3, 10, 4, 12, 16, 9, 6, 6)
+WEIGHTS = (13, 2, 4, 8, 6, 3, 10, 10, 4, 12, 16, 9, 6, 6)
 
 
 def random_edits(source, a, b):

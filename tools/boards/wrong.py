@@ -14,10 +14,14 @@ ROOT = os.path.dirname(os.path.dirname(os.path.dirname(os.path.abspath(__file__)
 ALIKE, COMPARE, SETTINGS, LIMITS, CLASS = "boards/src/alike.rt", "boards/src/compare.rt", "boards/src/settings.rt", "lists/src/limits.rt", "lists/src/class.rt"
 # file, the text, which stands there once, and what it becomes
 FAULTS = [
-    (ALIKE, "(x == y) | ((x != x) & (y != y))", "x == y"),
-    (ALIKE, "(x == y) | ((x != x) & (y != y))", "(x == y) | ((x != x) | (y != y))"),
-    (ALIKE, "same_number(x.a, y.a)", "same_number(x.b, y.b)"),
-    (ALIKE, "same_number(x.r, y.r)", "same_number(x.r, x.r)"),
+    (ALIKE, "bits32(x) == bits32(y)", "x == y"),
+    (ALIKE, "bits32(x) == bits32(y)", "(x == y) | ((x != x) & (y != y))"),
+    (ALIKE, "bits32(x) == bits32(y)", "(x == y) & (bits32(x) == bits32(y))"),
+    (ALIKE, "bits32(x) == bits32(y)", "bits32(x + 0.0) == bits32(y + 0.0)"),
+    (ALIKE, "bits32(x) == bits32(y)", "bits32(x) % 2147483648 == bits32(y) % 2147483648"),
+    (ALIKE, "bits32(x) == bits32(y)", "bits32(x) == bits32(x)"),
+    (ALIKE, "same_bits(x.a, y.a)", "same_bits(x.b, y.b)"),
+    (ALIKE, "same_bits(x.r, y.r)", "same_bits(x.r, x.r)"),
     (ALIKE, "(x.element_count == y.element_count)", "(x.element_count == x.element_count)"),
     (ALIKE, "(x.element_format == y.element_format)", "(x.element_format == x.element_format)"),
     (ALIKE, "same_kind(k, m)", "same_kind(k, k)"),

@@ -1,6 +1,6 @@
 #!/usr/bin/env python3
-"""model.py: what the answer about two lists has to be (document 02, request 3). Standard input: what the program of tools/boards prints for pairs that
-end in `show`. For each pair a line `equal`, `draw K` or `refused N`, worked out from its printed lists; the program's own line ends a pair and is
+"""model.py: what the answer about two lists has to be (document 02, requests 3 and 12). Standard input: what the program of tools/boards prints for pairs
+that end in `show`. For each pair a line `equal`, `draw K` or `refused N`, worked out from its printed lists; the program's own line ends a pair and is
 not looked at. Written from documents 01 and 02; it shares no code with the library."""
 import math
 import struct
@@ -82,7 +82,7 @@ def float_of(bits):
 class Machine:
     """What a draw can find, as far as it is compared."""
     def __init__(self):
-        self.attributes, self.buffers, self.program, self.blend = {}, {}, None, (0.0, 0.0, 0.0, 0.0)
+        self.attributes, self.buffers, self.program, self.blend = {}, {}, None, ("00000000",) * 4
 
     def play(self, words):
         name, f = words[0], words[1:]
@@ -96,7 +96,7 @@ class Machine:
         elif name == "SetProgram":
             self.program = f[0]
         elif name == "SetBlendConstant":
-            self.blend = tuple(map(float_of, f))
+            self.blend = tuple(f)
 
     def fetch(self, location):
         """Format, buffer, first byte, stride and step; only the format where the slot has no buffer."""
@@ -121,27 +121,49 @@ def found_by_draws(given):
     return found
 
 
-def same_float(x, y):
+def same_bits(x, y):
+    """Request 12: "alike only if their bits are". The printed bits, in which every NaN is 7fc00000."""
+    return x == y
+
+
+def same_number(x, y):
+    """Request 3: "as numbers, NaN equal to NaN"."""
+    x, y = float_of(x), float_of(y)
     return x == y or (math.isnan(x) and math.isnan(y))
 
 
-def alike(with_layout, without):
+def alike(same, with_layout, without):
     fetches, program, blend = with_layout
     wanted, other, constants = without
-    return all(fetches.get(location) == fetch for location, fetch in wanted.items()) and program == other and all(map(same_float, blend, constants))
+    return all(fetches.get(location) == fetch for location, fetch in wanted.items()) and program == other and all(map(same, blend, constants))
 
 
-def answer(a, b):
-    """The answer about the list with vertex buffer layout and the one without."""
-    refused = refusals(a) | refusals(b)
-    if refused:
-        return f"refused {min(refused)}"
-    if a.draws() != b.draws():
-        return "refused 9"
-    for k, (x, y) in enumerate(zip(found_by_draws(a), found_by_draws(b))):
-        if not alike(x, y):
+def by_draws(same, found):
+    """The answer, from what each two draws find."""
+    for k, (x, y) in enumerate(found):
+        if not alike(same, x, y):
             return f"draw {k}"
     return "equal"
+
+
+def answers(a, b):
+    """The answer about the list with vertex buffer layout and the one without: with request 12, and before it."""
+    refused = refusals(a) | refusals(b)
+    if not refused and a.draws() != b.draws():
+        refused = {9}
+    if refused:
+        return (f"refused {min(refused)}",) * 2
+    found = list(zip(found_by_draws(a), found_by_draws(b)))
+    return by_draws(same_bits, found), by_draws(same_number, found)
+
+
+def remains(before, answer):
+    """Request 12: "Whatever was unequal remains unequal". A draw that differed, or an earlier one, is named; no refusal comes or goes."""
+    if before == "equal":
+        return not answer.startswith("refused ")
+    if before.startswith("draw "):
+        return answer.startswith("draw ") and int(answer[5:]) <= int(before[5:])
+    return answer == before
 
 
 def pairs(lines):
@@ -159,7 +181,7 @@ def pairs(lines):
 
 def main():
     for lists, line in pairs(sys.stdin.read().splitlines()):
-        print(answer(*lists) if len(lists) == 2 else line)
+        print(answers(*lists)[0] if len(lists) == 2 else line)
 
 
 if __name__ == "__main__":
