@@ -7,10 +7,11 @@
 #   names A             the pipelines and draws of the lists that the session of file A records (-: standard input), with WebGPU's names in place of GL
 #                       numbers (request 2): SetPrimitive, SetDepth, SetStencilFunc, SetStencilOps, SetColorTarget and the four draws, in the printed
 #                       form, `---` between two lists; a number that has no name stays
-#   compare A B         whether each draw of two lists fetches alike (request 3): the list that the session of file A records, on a board with vertex buffer
-#                       layout, and that of file B, on one without: `equal`, `draw K` (the first draw that differs, from 0) or `refused N` (9: unequal
-#                       numbers of draws). One of the two may be standard input (-). Each session makes one list, ended or not. Nothing tests how the
-#                       lists were recorded: each session says its own board
+#   compare A B         whether each draw of two lists fetches alike (request 3), blend constants by their bits (request 12; those of every NaN are
+#                       7fc00000): the list that the session of file A records, on a board with vertex buffer layout, and that of file B, on one
+#                       without: `equal`, `draw K` (the first draw that differs, from 0) or `refused N` (9: unequal numbers of draws). One of the two
+#                       may be standard input (-). Each session makes one list, ended or not. Nothing tests how the lists were recorded: each
+#                       session says its own board
 #   --program PATH      the program: target/bin/span_masks, target/bin/list_names if not given (rt check NAME); with compare one that
 #                       tools/boards/build.sh made: if not given it is built, natively and unproved, into a temporary folder
 #   --script PATH       with names, the program that records: target/bin/script if not given (rt check script)

@@ -23,7 +23,7 @@ use Rattle.boards.specs.declared.compare.Compared.the-variants.{Equal, D
 use Rattle.boards.specs.Alike.{sameBits, sameNumber, allBelow}
 use Rattle.boards.specs.Compared.{firstOff, compared}
 use Rattle.boards.specs.Remains.{Remains}
-use Rattle.boards.proofs.Remain.{still-unequal}
+use Rattle.boards.proofs.StillUnequal.{still-unequal}
 
 -- ---- commands
 abbrev d : Command

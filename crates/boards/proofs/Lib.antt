@@ -1,7 +1,7 @@
 pub mod Long
 pub mod Sums
 pub mod Floats
-pub mod Remain
+pub mod StillUnequal
 pub mod Unset
 pub mod Data
 pub mod Picked

@@ -20,7 +20,7 @@ use Rattle.machine.specs.Found.{fetchAt}
 
 -- ---- comparisons of floats
 -- document 02 §12: "floats are now alike only if their bits are, so a NaN is alike only to itself with the same bits". The bits are the printed ones (`bits32`).
--- The language has one NaN, whose bits are 7fc00000: the bits that a NaN had before it became an `f32` here are no part of it
+-- Here a NaN is one value, with the bits 7fc00000, whatever sign and payload it was given with (docs/DIFFERENCES.md, A18): so a NaN is alike to a NaN, and to nothing else
 abbrev pub sameBits : Float → Float → Bool
 sameBits x y = eqb (bits32 x) (bits32 y)
 
@@ -28,12 +28,11 @@ sameBits x y = eqb (bits32 x) (bits32 y)
 abbrev pub sameNumber : Float → Float → Bool
 sameNumber x y = eq x y || (isNan x && isNan y)
 
--- a float is like itself, as by both of these
+-- a comparison by which a float is like itself: both of these are (`bits-self`, `number-self`)
 abbrev pub Reflexive : (Float → Float → Bool) → Type 0
 Reflexive same = (x : Float) → same x x ≡ true
 
 -- ---- what two draws find
-
 -- the four blend constants, by a comparison of floats
 abbrev pub sameColor : (Float → Float → Bool) → ColorF32 → ColorF32 → Bool
 sameColor same x y = same (x .r) (y .r) && (same (x .g) (y .g) && (same (x .b) (y .b) && same (x .a) (y .a)))

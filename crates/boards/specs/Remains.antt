@@ -13,7 +13,7 @@ use Rattle.boards.specs.declared.compare.Compared.the-variants.{Equal, D
 use Rattle.boards.specs.Alike.{sameBits, sameNumber}
 use Rattle.boards.specs.Compared.{number, drawsOf, compared}
 
--- a first draw that differs remains, or an earlier one is; a refusal remains the same, and an answer about draws is no refusal
+-- where draw k was the first that differed it is, or an earlier one; a refusal remains the same, and where there was none there is none
 abbrev pub Remains : Compared → Compared → Type 0
 Remains Equal r = number r ≡ 0
 Remains (Differs k) r = (j : ℕ) × (j ≤ k) × (r ≡ Differs j)
@@ -22,7 +22,7 @@ Remains OutOfRange r = r ≡ OutOfRange
 Remains NoRoom r = r ≡ NoRoom
 Remains DrawCounts r = r ≡ DrawCounts
 
--- what `compare` promises of its answer r: it is §12's, and what was unequal by §3 is so
+-- what `compare` promises of its answer r: it is §12's, and whatever was unequal by §3's comparison of floats is unequal by it
 abbrev pub Answered : Handed → Handed → Compared → Type 0
 Answered a b r = (r ≡ compared sameBits a b) × Remains (compared sameNumber a b) r
 
@@ -33,7 +33,7 @@ IsF32 x = T (fits binary32 x)
 abbrev pub ColorIsF32 : ColorF32 → Type 0
 ColorIsF32 c = IsF32 (c .r) × IsF32 (c .g) × IsF32 (c .b) × IsF32 (c .a)
 
--- the blend constants that each draw of a list finds are: so it is of every lent run, since no record can hold others
+-- each draw of a list finds blend constants that are: so it is of every lent run, whose records hold no other floats (`finds-f32`)
 abbrev pub FindsF32 : Handed → Type 0
 FindsF32 l = Each (λ (s : Shot). ColorIsF32 (s .gl .screen .blend)) (drawsOf l)
 

@@ -289,8 +289,8 @@ fn answer_of(m: Both) -> Compared
     m.answer
 }
 
-// Whether each draw of the two lists fetches alike: `a` is the list with vertex buffer layout, `b`
-// the one without, each with how much of its runs is used.
+// Whether each draw of the two lists fetches alike, floats by their bits: `a` is the list with
+// vertex buffer layout, `b` the one without, each with how much of its runs is used.
 pub fn compare(a: &[Record], used_a: Used, b: &[Record], used_b: Used) -> Compared
     ensures { λ r. ⌜ Answered (handed (now (a .entry)) «used_a») (handed (now (b .entry)) «used_b») r ⌝ }
 {

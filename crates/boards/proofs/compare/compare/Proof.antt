@@ -19,7 +19,7 @@ use Rattle.lists.proofs.limits.survey.Met as survey-thm
 use Rattle.boards.proofs.Data.{both, answer}
 use Rattle.boards.proofs.Finding.{finds}
 use Rattle.boards.proofs.Lent.{finds-f32}
-use Rattle.boards.proofs.Remain.{answered}
+use Rattle.boards.proofs.StillUnequal.{answered}
 use Rattle.boards.proofs.compare.no_record.Symbol as no-record
 use Rattle.boards.proofs.compare.no_record.Met as no-record-thm
 use Rattle.boards.proofs.compare.turns_of.Symbol as turns-of
