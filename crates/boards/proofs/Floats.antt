@@ -4,16 +4,16 @@ use mathlib.Core.Path.{_≡_, refl, sym, ap, ap₂, _∙_, subst}
 use mathlib.Core.Bool.{Bool, true, false, Bool·beq, _&&_, _||_, true≢false, false≢true}
 use native.Mathlib.Nat.{mul-one, zero-mul, suc-mul}
 use native.Mathlib.Omega.{arith}
-use lib.Dec.{eqb}
-use lib.IntN.{ℤ}
-use lib.Ieee.{Float, nan, inf, fin, binary32, up, down, eq, isNan, ofBits}
+use lib.Dec.{T, eqb, lit<}
+use lib.IntN.{ℤ, pos}
+use lib.Ieee.{Float, nan, inf, fin, binary32, up, down, fits, eq, isNan, ofBits}
 use lib.Ieee.Fits.{down-pos}
 use borrow.Author.Tests.{eqb-true, eqb-false, eq-eqb}
 use Rattle.numbers.specs.Convert.{bits32}
 use Rattle.numbers.specs.Agree.{bits-same}
 use Rattle.numbers.specs.Same.{unique}
 use Rattle.boards.specs.Alike.{sameBits, sameNumber, Reflexive}
-use Rattle.boards.specs.Remains.{IsF32, isZero}
+use Rattle.boards.specs.Remains.{IsF32, isZero, notMinusZero}
 use Rattle.boards.proofs.Sums.{same-test}
 
 -- ---- a float is like itself
@@ -113,3 +113,29 @@ as-numbers x y F G = go (sameBits x y) refl
 -- the comparison by bits is the finer one
 pub finer : (x y : Float) → IsF32 x → IsF32 y → sameBits x y ≡ true → sameNumber x y ≡ true
 finer x y F G e = as-numbers x y F G ∙ ap (λ (t : Bool). t || (isZero x && isZero y)) e
+
+-- ---- where neither is a minus zero, they are the same comparison
+plus-zero : (x : Float) → IsF32 x → notMinusZero x → isZero x ≡ true → x ≡ ofBits binary32 0
+unfolding eq ofBits fits
+plus-zero nan F n z = absurd (false≢true z)
+plus-zero (inf s) F n z = absurd (false≢true z)
+plus-zero (fin s m e) F n z = go s F n (the-zero s)
+  where
+    nothing : m * up e * down (pos 0) ≡ 0
+    nothing = eqb-true (m * up e * down (pos 0)) 0 (sym (zero-is s m e (pos 0)) ∙ z)
+
+    the-zero : (t : Bool) → T (fits binary32 (fin t m e)) → fin t m e ≡ fin t 0 (pos 0)
+    the-zero t G = unique binary32 (fin t m e) (fin t 0 (pos 0)) t 0 1 (lit< tt) G tt (refl, nothing ∙ sym (zero-mul (down e))) (refl, refl)
+
+    go : (t : Bool) → T (fits binary32 (fin t m e)) → notMinusZero (fin t m e) → (T (fits binary32 (fin t m e)) → fin t m e ≡ fin t 0 (pos 0)) → fin t m e ≡ fin false 0 (pos 0)
+    go false G k h = h G
+    go true G k h = absurd (not-equal (fin true m e) (fin true 0 (pos 0)) k (h G))
+
+pub as-bits : (x y : Float) → IsF32 x → IsF32 y → notMinusZero x → notMinusZero y → sameNumber x y ≡ sameBits x y
+as-bits x y F G m n = as-numbers x y F G ∙ go (sameBits x y) refl (isZero x) refl (isZero y) refl
+  where
+    go : (t : Bool) → sameBits x y ≡ t → (p : Bool) → isZero x ≡ p → (q : Bool) → isZero y ≡ q → t || (p && q) ≡ t
+    go true e p f q g = refl
+    go false e true f true g = absurd (not-equal x y e (plus-zero x F m f ∙ sym (plus-zero y G n g)))
+    go false e true f false g = refl
+    go false e false f q g = refl

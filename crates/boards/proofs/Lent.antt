@@ -17,25 +17,24 @@ use Rattle.records.specs.declared.command.Command.the-variants.{SetStencilOps, 
 use Rattle.records.specs.declared.command.Command.the-variants.{UnsetVertexAttribute, SetVertexBuffer, SetProgram, SetPrimitive, SetBlendConstant, SetColorTarget, BindBuffer}
 use Rattle.records.specs.declared.command.Command.the-variants.{BindSampler, BindTexture, BindImage, PushDebugGroup, PopDebugGroup, SetImmediates, SetClipDistances}
 use Rattle.records.specs.declared.command.Record.{Record}
-use Rattle.machine.specs.Each.{Each}
-use Rattle.machine.specs.Machine.{Gl, Shot, freshGl}
+use Rattle.machine.specs.Machine.{Gl, freshGl}
 use Rattle.lists.specs.declared.limits.Used.{Used}
 use Rattle.lists.specs.Class.{classOf, draws, commandsOf}
 use Rattle.lists.specs.Limits.{handed}
 use Rattle.lists.specs.Shots.{settingsAfter, shotsFrom}
 use Rattle.lists.proofs.Data.{element}
-use Rattle.boards.specs.Remains.{ColorIsF32, FindsF32}
+use Rattle.boards.specs.Remains.{IsF32, OfEach, OfConstants, FindsF32}
 use Rattle.boards.proofs.Drawn.{at-draw, at-other}
 
 abbrev Fits : Gl → Type 0
-Fits g = ColorIsF32 (g .screen .blend)
+Fits g = OfEach IsF32 (g .screen .blend)
 
 fresh-fits : Fits freshGl
 unfolding fits ofBits
 fresh-fits = (tt, tt, tt, tt)
 
 -- what a record with blend constants is made of: its command, the variant's one field, and the four floats of that
-color-fits : (x : ColorF32) → Good (element .R) (record { command = SetBlendConstant x }) → ColorIsF32 x
+color-fits : (x : ColorF32) → Good (element .R) (record { command = SetBlendConstant x }) → OfEach IsF32 x
 color-fits x e =
     let color = e .1 .1 .0 .1 .1 .1 .1 .0 .1 .1 in
     (passes _ (color .0 .1), passes _ (color .1 .0 .1), passes _ (color .1 .1 .0 .1), passes _ (color .1 .1 .1 .0 .1))
@@ -91,7 +90,7 @@ after-fits PopDebugGroup g e f = f
 after-fits (SetImmediates d o) g e f = f
 after-fits (SetClipDistances old n) g e f = f
 
-draws-fit : (n : ℕ) (l : List Record) (g : Gl) → Goods (element .R) l → Fits g → Each (λ (s : Shot). Fits (s .gl)) (shotsFrom g (commandsOf (take n l)))
+draws-fit : (n : ℕ) (l : List Record) (g : Gl) → Goods (element .R) l → Fits g → OfConstants IsF32 (shotsFrom g (commandsOf (take n l)))
 unfolding shotsFrom
 draws-fit zero l g e f = tt
 draws-fit (suc n) [] g e f = tt
@@ -103,11 +102,11 @@ draws-fit (suc n) (x ∷ l) g e f = go (draws (classOf c)) refl (draws-fit n l (
     cs : List Command
     cs = commandsOf (take n l)
 
-    go : (t : Bool) → draws (classOf c) ≡ t → Each (λ (s : Shot). Fits (s .gl)) (shotsFrom (settingsAfter g c) cs) → Each (λ (s : Shot). Fits (s .gl)) (shotsFrom g (c ∷ cs))
+    go : (t : Bool) → draws (classOf c) ≡ t → OfConstants IsF32 (shotsFrom (settingsAfter g c) cs) → OfConstants IsF32 (shotsFrom g (c ∷ cs))
     go true h rest =
         let a = at-draw g c cs h in
-        subst (Each (λ (s : Shot). Fits (s .gl))) (sym (a .2)) (subst Fits (sym (a .1)) f, rest)
-    go false h rest = subst (Each (λ (s : Shot). Fits (s .gl))) (sym (at-other g c cs h)) rest
+        subst (OfConstants IsF32) (sym (a .2)) (subst Fits (sym (a .1)) f, rest)
+    go false h rest = subst (OfConstants IsF32) (sym (at-other g c cs h)) rest
 
 pub finds-f32 : (l : List Record) (u : Used) → Goods (element .R) l → FindsF32 (handed l u)
 finds-f32 l u e = draws-fit (u .commands) l freshGl e fresh-fits

@@ -1,7 +1,8 @@
 -- "Whatever was unequal remains unequal" (document 02 §12): what §3's comparison of floats (`sameNumber`) answers of two lists, and what §12's (`sameBits`) does. Definitions only.
 use Prim.Native.Nat.{ℕ, _≤_}
 use mathlib.Core.Path.{_≡_}
-use mathlib.Core.Bool.{Bool}
+use mathlib.Core.Bool.{Bool, false}
+use mathlib.Core.List.{List}
 use lib.Dec.{T}
 use lib.Ieee.{Float, binary32, fits, eq, ofBits}
 use Rattle.records.specs.declared.command.ColorF32.{ColorF32}
@@ -30,13 +31,24 @@ Answered a b r = (r ≡ compared sameBits a b) × Remains (compared sameNumber a
 abbrev pub IsF32 : Float → Type 0
 IsF32 x = T (fits binary32 x)
 
-abbrev pub ColorIsF32 : ColorF32 → Type 0
-ColorIsF32 c = IsF32 (c .r) × IsF32 (c .g) × IsF32 (c .b) × IsF32 (c .a)
+-- a property of each of four constants, and of all blend constants that draws find
+abbrev pub OfEach : (Float → Type 0) → ColorF32 → Type 0
+OfEach P c = P (c .r) × P (c .g) × P (c .b) × P (c .a)
 
--- each draw of a list finds blend constants that are: so it is of every lent run, whose records hold no other floats (`finds-f32`)
+abbrev pub OfConstants : (Float → Type 0) → List Shot → Type 0
+OfConstants P = Each (λ (s : Shot). OfEach P (s .gl .screen .blend))
+
+-- each blend constant that a draw of the list finds is one: so it is of every lent run, whose records hold no other floats (`finds-f32`)
 abbrev pub FindsF32 : Handed → Type 0
-FindsF32 l = Each (λ (s : Shot). ColorIsF32 (s .gl .screen .blend)) (drawsOf l)
+FindsF32 l = OfConstants IsF32 (drawsOf l)
 
 -- zero or minus zero
 abbrev pub isZero : Float → Bool
 isZero x = eq x (ofBits binary32 0)
+
+-- no draw of a list finds a minus zero
+abbrev pub notMinusZero : Float → Type 0
+notMinusZero x = sameBits x (ofBits binary32 0x8000_0000) ≡ false
+
+abbrev pub NoMinusZero : Handed → Type 0
+NoMinusZero l = OfConstants notMinusZero (drawsOf l)
