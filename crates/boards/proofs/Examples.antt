@@ -23,7 +23,7 @@ use Rattle.boards.specs.declared.compare.Compared.the-variants.{Equal, D
 use Rattle.boards.specs.Alike.{sameBits, sameNumber, allBelow}
 use Rattle.boards.specs.Compared.{firstOff, compared}
 use Rattle.boards.specs.Remains.{Remains}
-use Rattle.boards.proofs.StillUnequal.{still-unequal}
+use Rattle.boards.proofs.StillUnequal.{still-unequal, as-before}
 
 -- ---- commands
 abbrev d : Command
@@ -108,7 +108,7 @@ rows =
     -- the program, on one side and on both
     ∷ row (SetProgram 5 ∷ d ∷ []) (d ∷ []) (Differs 0)
     ∷ row (SetProgram 5 ∷ d ∷ []) (SetProgram 5 ∷ d ∷ []) Equal
-    -- minus zero is the number zero, and has other bits: in each of the four, on either side; it is like itself
+    -- minus zero is the number zero, and has other bits: in each of the four, and in the other list; it is like itself
     ∷ changed (blend minus 0 0 0 ∷ d ∷ []) (d ∷ []) Equal (Differs 0)
     ∷ changed (blend 0 minus 0 0 ∷ d ∷ []) (d ∷ []) Equal (Differs 0)
     ∷ changed (blend 0 0 minus 0 ∷ d ∷ []) (d ∷ []) Equal (Differs 0)
@@ -166,13 +166,22 @@ pub worked-before : map (λ (r : Row). compared sameNumber (r .a) (r .b)) rows �
 unfolding firstOff shotsFrom allBelow some? eq isNan ofBits
 worked-before = refl
 
--- ---- the premise of `still-unequal`
--- it holds of lists with zeros of both signs
+-- ---- the premises of `still-unequal` and `as-before`
+-- that the constants are `f32`s holds of lists with zeros of both signs
 remains-here : Remains (Differs 1) (Differs 0)
 unfolding firstOff shotsFrom allBelow some? bits32 toBits eq isNan ofBits fits
 remains-here = still-unequal (plain (alpha minus ∷ d ∷ SetProgram 5 ∷ d ∷ [])) (plain (d ∷ d ∷ [])) (((tt, tt, tt, tt), ((tt, tt, tt, tt), tt))) (((tt, tt, tt, tt), ((tt, tt, tt, tt), tt)))
 
--- and it is needed: 2 to the -200 is no `f32`, and the bits of the nearest one below it are zero's
+-- all of them hold of these two, which differ; without the one on minus zero the answers are two, as rows above have it
+abbrev shown : ℕ → Handed
+shown bits = plain (alpha bits ∷ d ∷ [])
+
+as-before-here : compared sameBits (shown 0x3f80_0000) (shown 0x4000_0000) ≡ compared sameNumber (shown 0x3f80_0000) (shown 0x4000_0000)
+unfolding shotsFrom bits32 toBits ofBits fits
+as-before-here =
+    as-before (shown 0x3f80_0000) (shown 0x4000_0000) ((tt, tt, tt, tt), tt) ((tt, tt, tt, tt), tt) ((refl, refl, refl, refl), tt) ((refl, refl, refl, refl), tt)
+
+-- that they are `f32`s is needed: 2 to the -200 is no `f32`, and the bits of the nearest one below it are zero's
 abbrev tiny : Command
 tiny = SetBlendConstant (record { r = fin false 1 (negsuc 199); g = ofBits binary32 0; b = ofBits binary32 0; a = ofBits binary32 0 })
 

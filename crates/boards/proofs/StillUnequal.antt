@@ -90,9 +90,6 @@ still-unequal a b F G =
     (counts-remain (eqb (length (drawsOf a)) (length (drawsOf b))) (firstOff sameNumber 0 (drawsOf a) (drawsOf b)) (firstOff sameBits 0 (drawsOf a) (drawsOf b))
     (first-remains 0 (drawsOf a) (drawsOf b) F G))
 
-pub answered : (a b : Handed) → FindsF32 a → FindsF32 b → (r : Compared) → r ≡ compared sameBits a b → Answered a b r
-answered a b F G r e = (e, subst (Remains (compared sameNumber a b)) (sym e) (still-unequal a b F G))
-
 -- ---- where no draw finds a minus zero, the answer is §3's
 same-draws : (g h : Gl) → OfEach IsF32 (g .screen .blend) → OfEach IsF32 (h .screen .blend) → OfEach notMinusZero (g .screen .blend) → OfEach notMinusZero (h .screen .blend)
     → alike sameNumber g h ≡ alike sameBits g h
@@ -118,3 +115,7 @@ pub as-before : (a b : Handed) → FindsF32 a → FindsF32 b → NoMinusZero a �
 as-before a b F G M N =
     ap (λ (r : Compared). refusedOr (eitherBreaks (brokenBy a) (brokenBy b)) (cond (eqb (length (drawsOf a)) (length (drawsOf b))) r DrawCounts))
     (sym (same-first 0 (drawsOf a) (drawsOf b) F G M N))
+
+-- ---- all that the contract of `compare` says
+pub answered : (a b : Handed) → FindsF32 a → FindsF32 b → (r : Compared) → r ≡ compared sameBits a b → Answered a b r
+answered a b F G r e = (e, subst (Remains (compared sameNumber a b)) (sym e) (still-unequal a b F G), λ M N. e ∙ as-before a b F G M N)

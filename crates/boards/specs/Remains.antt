@@ -23,10 +23,6 @@ Remains OutOfRange r = r ≡ OutOfRange
 Remains NoRoom r = r ≡ NoRoom
 Remains DrawCounts r = r ≡ DrawCounts
 
--- what `compare` promises of its answer r: it is §12's, and whatever was unequal by §3's comparison of floats is unequal by it
-abbrev pub Answered : Handed → Handed → Compared → Type 0
-Answered a b r = (r ≡ compared sameBits a b) × Remains (compared sameNumber a b) r
-
 -- a value of the type `f32`: the logic has one type for the floats of all formats
 abbrev pub IsF32 : Float → Type 0
 IsF32 x = T (fits binary32 x)
@@ -52,3 +48,7 @@ notMinusZero x = sameBits x (ofBits binary32 0x8000_0000) ≡ false
 
 abbrev pub NoMinusZero : Handed → Type 0
 NoMinusZero l = OfConstants notMinusZero (drawsOf l)
+
+-- what `compare` promises of its answer r: it is §12's; whatever was unequal by §3's comparison of floats is unequal by it; and without a minus zero it is §3's
+abbrev pub Answered : Handed → Handed → Compared → Type 0
+Answered a b r = (r ≡ compared sameBits a b) × Remains (compared sameNumber a b) r × (NoMinusZero a → NoMinusZero b → r ≡ compared sameNumber a b)

@@ -1,5 +1,5 @@
--- The premises of `two-boards` hold together, of a draw that fetches by instance, with minus zero and a NaN among the blend constants; and each is needed: that both boards emulate
--- instancing or both do not, that no draw follows the first pass, and that a float is like itself.
+-- The premises of `two-boards` hold together, of a draw that fetches by instance, with minus zero and a NaN among the blend constants; and three of them
+-- are needed: that both boards emulate instancing or both do not, that no draw follows the first pass, and that a float is like itself.
 -- Worked out by computation. Assumes nothing.
 use Prim.Native.Nat.{ℕ, zero, suc, _<_}
 use mathlib.Core.Path.{_≡_, refl, sym, ap, _∙_, subst}

@@ -1,5 +1,5 @@
--- `boards::compare::compare` meets its contract, by `ComparingAll.antt`: what its loop finds is the answer (`finds`), and by the types of the lent records what was unequal is so
--- (`still-unequal`). Assumes nothing.
+-- `boards::compare::compare` meets its contract, by `ComparingAll.antt`: what its loop finds is the answer (`finds`), and the rest follows from the types of the lent records
+-- (`finds-f32`, `answered`). Assumes nothing.
 use mathlib.Core.List.{[], _∷_}
 use mir.Syntax.{w64}
 use denote.Triple.Table.{cited}
