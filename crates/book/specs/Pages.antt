@@ -2,7 +2,8 @@
 use Prim.Native.Nat.{ℕ}
 use mathlib.Core.Bool.{cond}
 use mathlib.Core.List.{List, [], _∷_, map}
-use mathlib.Core.Option.{Option}
+use mathlib.Core.Option.{Option, none, some}
+use lib.ListN.{take}
 use Rattle.records.specs.declared.command.BufferBinding.{BufferBinding}
 use Rattle.records.specs.declared.command.ColorF32.{ColorF32}
 use Rattle.records.specs.declared.command.RectI32.{RectI32}
@@ -88,9 +89,60 @@ noteCalls caps b ds (f ∷ fs) = noteCalls caps (enterFed caps b f) (cond (f .ac
 abbrev pub drawCalls : PrivateCapabilities → List Fed → List DrawCall
 drawCalls caps fs = noteCalls caps empty [] fs
 
+-- ---- when two pages agree
+-- what a pipeline says: the places up to its counts, and no immediates, which demand 3 leaves aside
+abbrev pub trimmed : RenderPipeline → RenderPipeline
+trimmed p =
+    record {
+      inner =
+          record {
+            program = p .inner .program;
+            «sampler_map» = p .inner .«sampler_map»;
+            «first_instance_location» = p .inner .«first_instance_location»;
+            «immediates_descs» = [];
+            «immediates_count» = 0;
+            «clip_distance_count» = p .inner .«clip_distance_count»;
+          };
+      topology = p .topology;
+      primitive = p .primitive;
+      «vertex_buffers» = take (p .«vertex_buffer_count») (p .«vertex_buffers»);
+      «vertex_buffer_count» = p .«vertex_buffer_count»;
+      «vertex_attributes» = take (p .«vertex_attribute_count») (p .«vertex_attributes»);
+      «vertex_attribute_count» = p .«vertex_attribute_count»;
+      «color_targets» = take (p .«color_target_count») (p .«color_targets»);
+      «color_target_count» = p .«color_target_count»;
+      depth = p .depth;
+      «depth_bias» = p .«depth_bias»;
+      stencil = p .stencil;
+      «alpha_to_coverage_enabled» = p .«alpha_to_coverage_enabled»;
+    }
+
+abbrev pub trimmedIf : Option RenderPipeline → Option RenderPipeline
+trimmedIf none = none
+trimmedIf (some p) = some (trimmed p)
+
+abbrev pub withPipeline : Page → Option RenderPipeline → Page
+withPipeline g o =
+    record {
+      pipeline = o;
+      reference = g .reference;
+      buffer = g .buffer;
+      index = g .index;
+      format = g .format;
+      offset = g .offset;
+      bound = g .bound;
+      viewport = g .viewport;
+      scissor = g .scissor;
+      blend = g .blend;
+    }
+
+-- the page, its pipeline by what it says
+abbrev pub trimmedPage : Page → Page
+trimmedPage g = withPipeline g (trimmedIf (g .pipeline))
+
 -- "the same accepted draw calls in the same order", and "books that agree at each draw in every entry"
 abbrev pub callsOf : List DrawCall → List Call
 callsOf ds = map (λ (d : DrawCall). d .call) ds
 
 abbrev pub pagesOf : List DrawCall → List Page
-pagesOf ds = map (λ (d : DrawCall). d .page) ds
+pagesOf ds = map (λ (d : DrawCall). trimmedPage (d .page)) ds

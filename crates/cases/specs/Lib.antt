@@ -9,3 +9,4 @@ pub mod Readings
 pub mod Witness
 pub mod OnBoards
 pub mod Pair
+pub mod HandedIn

@@ -1,5 +1,5 @@
--- Two different lists under `same-order`, by computation: another pass record, an earlier buffer in slot 0, another pipeline before, a refused call;
--- the same draw, and the same page at it. Assumes nothing.
+-- Two different lists under `same-order`, by computation: another pass record, an earlier buffer in slot 0, another pipeline before, a refused call, and a pipeline that differs
+-- past a count and in its immediates; the same draw, and the same page at it. Assumes nothing.
 use Prim.Native.Nat.{ℕ}
 use mathlib.Core.Path.{_≡_, refl, sym, ap, _∙_, subst}
 use mathlib.Core.Bool.{Bool, true, false, cond}
@@ -13,7 +13,7 @@ use Rattle.mask.specs.Mask.{testBit, bitAt, setBit, without, maskOf, placesFrom
 use Rattle.mask.specs.By.{maskBy}
 use Rattle.tables.specs.Tabulate.{tabulate, upd}
 use Rattle.numbers.specs.Convert.{clampTo}
-use Rattle.records.specs.Start.{startState}
+use Rattle.records.specs.Start.{startAttribute, startState}
 use Rattle.records.specs.Outcome.{smallest}
 use Rattle.records.specs.Check.{some?, badUnits, among, twice}
 use Rattle.records.specs.declared.command.BufferBinding.{BufferBinding}
@@ -22,6 +22,7 @@ use Rattle.records.specs.declared.command.DepthRange.{DepthRange}
 use Rattle.records.specs.declared.pass.OptionDepthStencil.the-variants as target
 use Rattle.records.specs.declared.pass.OptionTimestampWrites.the-variants as writes
 use Rattle.records.specs.declared.pass.RenderPassDescriptor.{RenderPassDescriptor}
+use Rattle.records.specs.declared.pipeline.RenderPipeline.{RenderPipeline}
 use Rattle.records.specs.declared.state.IndexFormat.the-variants.{Uint32}
 use Rattle.slots.specs.Prepare.{bufferCommands}
 use Rattle.bindings.specs.Units.{samplerCommands}
@@ -33,10 +34,10 @@ use Rattle.calls.specs.Step.{outcomeOf}
 use Rattle.book.specs.Book.{Fed, empty}
 use Rattle.cases.specs.Worked.{ready-1, _⨾_}
 use Rattle.book.specs.Run.{record-calls, fed, Premises, begun}
-use Rattle.book.specs.Pages.{Page, noteCalls, drawCalls, callsOf, pagesOf}
+use Rattle.book.specs.Pages.{Page, trimmed, noteCalls, drawCalls, callsOf, pagesOf}
 use Rattle.book.specs.FirstPass.{found, shots, entries}
 use Rattle.order.proofs.Same.{same-order}
-use Rattle.cases.specs.Samples.{emulated, rooms, padded, noLabel, noQueries, fetching, barePass, drawAt, rect}
+use Rattle.cases.specs.Samples.{emulated, rooms, padded, noLabel, noQueries, innerOf, attribute, fetching, barePass, drawAt, rect}
 
 abbrev wholeDepth : DepthRange
 wholeDepth = record { start = ofBits binary32 0; end = ofBits binary32 0x3f80_0000 }
@@ -60,6 +61,25 @@ narrowViewport = set-viewport (record { x = ofBits binary32 0; y = ofBits binary
 abbrev narrowScissor : Call
 narrowScissor = set-scissor-rect (record { x = 0; y = 0; w = 4; h = 3 })
 
+-- the pipeline `fetching 0` with an attribute past its count and an immediate
+abbrev strewn : RenderPipeline
+strewn =
+    record {
+      inner = innerOf 1 [] (record { location = 7; ty = 5126; offset = 0; «size_bytes» = 4 } ∷ []);
+      topology = fetching 0 .topology;
+      primitive = fetching 0 .primitive;
+      «vertex_buffers» = fetching 0 .«vertex_buffers»;
+      «vertex_buffer_count» = 1;
+      «vertex_attributes» = padded 16 startAttribute (attribute 0 0 0 ∷ attribute 3 8 0 ∷ []);
+      «vertex_attribute_count» = 1;
+      «color_targets» = fetching 0 .«color_targets»;
+      «color_target_count» = 0;
+      depth = fetching 0 .depth;
+      «depth_bias» = fetching 0 .«depth_bias»;
+      stencil = fetching 0 .stencil;
+      «alpha_to_coverage_enabled» = false;
+    }
+
 abbrev done : Call → Fed
 done c = record { call = c; accepted = true }
 
@@ -76,7 +96,7 @@ long-fed =
     ∷ record { call = set-vertex-buffer 16 7 16; accepted = false }
     ∷ done narrowViewport
     ∷ done narrowScissor
-    ∷ done (set-render-pipeline (fetching 0))
+    ∷ done (set-render-pipeline strewn)
     ∷ done (set-vertex-buffer 0 7 16)
     ∷ done (drawAt 5)
     ∷ []
@@ -115,7 +135,7 @@ short-premises = (λ a. tt) ⨾ (λ a. tt) ⨾ (λ a. tt) ⨾ (λ a st. ready-1 
 long-premises : Premises emulated empty long-fed
 unfolding Premises
 long-premises =
-    (λ a. tt) ⨾ (λ a. tt) ⨾ (λ a. tt) ⨾ (λ a. tt) ⨾ (λ a. tt) ⨾ (λ a. tt) ⨾ (λ a. tt) ⨾ (λ a. tt) ⨾ (λ a st. ready-1 (fetching 0) refl refl refl) ⨾ tt
+    (λ a. tt) ⨾ (λ a. tt) ⨾ (λ a. tt) ⨾ (λ a. tt) ⨾ (λ a. tt) ⨾ (λ a. tt) ⨾ (λ a. tt) ⨾ (λ a. tt) ⨾ (λ a st. ready-1 strewn refl refl refl) ⨾ tt
 
 -- ---- the draw call and its page
 same-calls : callsOf (drawCalls emulated short-fed) ≡ callsOf (drawCalls emulated long-fed)
@@ -138,7 +158,7 @@ unfolding noteCalls clampTo ofBits
 same-pages =
     λ j.
     record {
-      pipeline = some (fetching 0);
+      pipeline = some (trimmed (fetching 0));
       reference = none;
       buffer = λ i. rebound i j;
       index = none;
@@ -153,7 +173,7 @@ same-pages =
 
 -- so no draw differs
 pub no-draw-differs : (length (shots emulated rooms startState short) ≡ length (shots emulated rooms startState long))
-    × (found (entries emulated rooms startState short) (shots emulated rooms startState short) ≡ found (entries emulated rooms startState short) (shots emulated rooms startState long))
+    × (found (entries emulated rooms startState short) (shots emulated rooms startState short) ≡ found (entries emulated rooms startState long) (shots emulated rooms startState long))
 unfolding outcomeOf smallest some? badUnits among twice testBit
 no-draw-differs =
     same-order emulated rooms rooms startState startState short long refl (premised (fed-are .0) short-premises) refl (premised (fed-are .1) long-premises)

@@ -1,4 +1,4 @@
--- Where the list is the Rust's, worked out: sessions to which `as-rust` speaks, and two that show that each half of its condition is needed. Assumes nothing.
+-- Where the list is the Rust's, worked out: even passes after one that is not, to which `as-rust` speaks, and two sessions that show that each half of its condition is needed. Assumes nothing.
 use Prim.Native.Nat.{ℕ, zero, suc, _<_}
 use mathlib.Core.Path.{_≡_, refl, sym, ap, _∙_}
 use mathlib.Core.Bool.{Bool, false, cond}
@@ -29,9 +29,9 @@ use Rattle.calls.specs.Step.{outcomeOf}
 use Rattle.machine.proofs.Lists.{none-some}
 use Rattle.book.specs.Book.{Fed, describes, known}
 use Rattle.cases.specs.Worked.{_⨾_}
-use Rattle.book.specs.Run.{record-calls, fed, begun}
+use Rattle.book.specs.Run.{Recording, record-calls, fed, begun}
 use Rattle.order.specs.OneNumber.{rust-calls, Even}
-use Rattle.order.proofs.AsRust.{as-rust}
+use Rattle.order.proofs.PassAsRust.{as-rust}
 use Rattle.cases.specs.Samples.{emulated, rooms, byInstance, A, B, barePass, drawAt, drawn, bound}
 use Rattle.cases.specs.Cases.{with}
 use Rattle.cases.specs.EdgeSamples.{stepping}
@@ -42,7 +42,14 @@ ours calls = record-calls emulated rooms (begun emulated rooms startState) calls
 abbrev rusts : List Call → List Command
 rusts calls = rust-calls emulated rooms (begun emulated rooms startState) 0 calls .list
 
--- ---- two pipelines that describe slot 0, with strides 8 and 16, in two passes
+-- ---- a pass that is not even: A at 0, B at 5, A at 5
+abbrev mixed : List Call
+mixed = with A ++ drawAt 0 ∷ set-render-pipeline B ∷ drawAt 5 ∷ set-render-pipeline A ∷ drawAt 5 ∷ []
+
+abbrev uneven : Recording
+uneven = record-calls emulated rooms (begun emulated rooms startState) (mixed ++ end-render-pass ∷ [])
+
+-- ---- and behind it two pipelines that describe slot 0, with strides 8 and 16, in two passes
 abbrev C : RenderPipeline
 C = stepping (byInstance 16)
 
@@ -50,7 +57,7 @@ abbrev alike : List Call
 alike = with A ++ drawAt 0 ∷ drawAt 5 ∷ set-render-pipeline C ∷ drawAt 5 ∷ end-render-pass ∷ barePass ∷ set-render-pipeline C ∷ drawAt 5 ∷ []
 
 abbrev its-fed : List Fed
-its-fed = fed emulated rooms (begun emulated rooms startState .state) alike
+its-fed = fed emulated rooms (uneven .state) alike
 
 same-slots : (q : RenderPipeline) → some A ≡ some q → (i : ℕ) → i < 16 → known (describes C i) ≡ known (describes q i)
 same-slots q e i l = at i ∙ ap (λ (x : RenderPipeline). known (describes x i)) (some-same A q e)
@@ -66,7 +73,7 @@ same-slots q e i l = at i ∙ ap (λ (x : RenderPipeline). known (describes x i)
     at (suc i) = past (suc i) (ltb (suc i) 1) _ _ (le-ltb (suc i) 1 (omega arith))
 
 its-even : Even emulated none its-fed
-unfolding Even fed outcomeOf smallest some? badUnits among twice testBit bitAt setBit without maskOf placesFrom maskBy tabulate bufferCommands samplerCommands changedUnits sameTargets
+unfolding Even record-calls fed outcomeOf smallest some? badUnits among twice testBit bitAt setBit without maskOf placesFrom maskBy tabulate bufferCommands samplerCommands changedUnits sameTargets
     beginRenderCommands attachColors resolvesFrom invalidations clearColors
 its-even =
     (λ a. tt)
@@ -82,14 +89,12 @@ its-even =
     ⨾ (λ a made. refl)
     ⨾ tt
 
-its-list : ours alike ≡ rusts alike
-unfolding outcomeOf smallest some? badUnits among twice testBit
-its-list = as-rust emulated rooms startState alike refl (λ layout emulates. its-even) .0 .0
+its-list : record-calls emulated rooms uneven alike .list ≡ rust-calls emulated rooms uneven 0 alike .list
+unfolding record-calls outcomeOf smallest some? badUnits among twice testBit bitAt setBit without maskOf placesFrom maskBy tabulate bufferCommands samplerCommands changedUnits sameTargets
+    beginRenderCommands attachColors resolvesFrom invalidations clearColors
+its-list = as-rust emulated rooms startState (mixed ++ end-render-pass ∷ []) alike refl refl (λ layout emulates. its-even) .0 .0
 
--- ---- "all pipelines of a pass describe the same slots": A at 0, B at 5, A at 5
-abbrev mixed : List Call
-mixed = with A ++ drawAt 0 ∷ set-render-pipeline B ∷ drawAt 5 ∷ set-render-pipeline A ∷ drawAt 5 ∷ []
-
+-- ---- "all pipelines of a pass describe the same slots": there they do not
 -- what follows the first two draws
 mixed-differ :
     (drop 12 (ours mixed) ≡ SetProgram 1 ∷ ConfigureDepthStencil 0 ∷ bound 0 56 Instance 8 ∷ drawn 5 ∷ [])

@@ -1,6 +1,5 @@
--- Document 02, request 5: "the list is the Rust's wherever each draw follows a pipeline of its own pass and all pipelines of a pass describe the same slots". Assumes nothing.
--- `as-rust`; `RanAsRust` has it of what the functions hand back. The condition is asked only with VERTEX_BUFFER_LAYOUT and without FULLY_FEATURED_INSTANCING;
--- on all other boards the list is the Rust's always.
+-- Two recordings of the same calls, by this recorder's rule and by the Rust's: as long as they are even both append the same. Assumes nothing.
+-- `all-steps`; PassAsRust.antt has the theorems. `rust-wakes`: the Rust's rule is document 01's sentence.
 use Prim.Native.Nat.{ℕ, _^_, _<_}
 use mathlib.Core.Path.{_≡_, refl, sym, ap, ap₂, _∙_, subst}
 use mathlib.Core.Bool.{Bool, true, false, cond, not, _&&_, _||_}
@@ -32,9 +31,9 @@ use Rattle.calls.specs.Parts.{withProgress, withVertex, endVertex, drawn}
 use Rattle.calls.specs.Step.{meaning, progressAfter, callConditions, outcomeOf, step, drawing}
 use Rattle.machine.proofs.Lists.{false-true, true-false, and-true, and-false}
 use Rattle.book.specs.Book.{Fed, known}
-use Rattle.book.specs.Run.{carried, Recording, record-call, record-calls, fed, begun}
+use Rattle.book.specs.Run.{carried, Recording, record-call, record-calls, fed}
 use Rattle.order.proofs.Accepted.{in-range}
-use Rattle.order.specs.OneNumber.{numbered, Turn, draws, passes, turnOf, numberAfter, nextNumber, rust-calls, rust-fed, lastPipeline, EvenAt, Even}
+use Rattle.order.specs.OneNumber.{numbered, Turn, draws, passes, turnOf, numberAfter, nextNumber, rust-calls, rust-fed, lastPipeline, EvenAt, Even, EvenWhere, SameLists}
 use Rattle.order.proofs.Twin.{other, Same, zeroed, rebuffered, alike, redrawn, repiped}
 
 -- the state with that dirty mask, and one number for all slots
@@ -277,14 +276,6 @@ one-step caps rooms o s d n S c E =
     go false true e q = true-false (q ∙ e)
     go false false e q = record { dirty = d; is = refl; same = S }
 
--- the condition, where it is asked
-abbrev pub EvenWhere : PrivateCapabilities → Option RenderPipeline → List Fed → Type 0
-EvenWhere caps o fs = caps .«vertex_buffer_layout» ≡ true → caps .«fully_featured_instancing» ≡ false → Even caps o fs
-
--- what is recorded: the list, its marker bytes and its queries
-abbrev pub SameLists : Recording → Recording → Type 0
-SameLists r q = (r .list ≡ q .list) × (r .bytes ≡ q .bytes) × (r .queries ≡ q .queries)
-
 pub all-steps : (caps : PrivateCapabilities) (rooms : Rooms) (o : Option RenderPipeline) (s t : State) (n : ℕ) (l : List Command) (b q : List ℕ) (cs : List Call)
     → Twins caps o s n (numbered n t) → EvenWhere caps o (fed caps rooms s cs)
     → SameLists (record-calls caps rooms (over s l b q) cs) (rust-calls caps rooms (over t l b q) n cs) × (fed caps rooms s cs ≡ rust-fed caps rooms t n cs)
@@ -302,21 +293,6 @@ all-steps caps rooms o s t n l b q (c ∷ cs) T E =
       (I .0 .0 ∙ ap (λ (x : Recording). x .list) alike, I .0 .1 ∙ ap (λ (x : Recording). x .bytes) alike, I .0 .2 ∙ ap (λ (x : Recording). x .queries) alike),
       ap₂ (λ (t : Bool) (fs : List Fed). record { call = c; accepted = t } ∷ fs) (sym (next .carries)) (I .1),
     )
-
--- `begin_encoding` starts both alike, the one number 0
-pub started : (caps : PrivateCapabilities) (rooms : Rooms) (s : State) → carried caps rooms s begin-encoding ≡ true
-    → Twins caps none (begun caps rooms s .state) 0 (numbered 0 (begun caps rooms s .state))
-started caps rooms s e =
-    subst (λ (x : State). Twins caps none x 0 (numbered 0 x))
-    (sym (ap (λ (t : Bool). cond t (withProgress (progressAfter (meaning caps s begin-encoding)) (meaning caps s begin-encoding .after)) s) e))
-    (record { dirty = 0; is = refl; same = zeroed caps startVertex refl refl })
-
--- THE LIST IS THE RUST'S, and so are the answers
-pub as-rust : (caps : PrivateCapabilities) (rooms : Rooms) (s : State) (calls : List Call)
-    → carried caps rooms s begin-encoding ≡ true → EvenWhere caps none (fed caps rooms (begun caps rooms s .state) calls)
-    → SameLists (record-calls caps rooms (begun caps rooms s) calls) (rust-calls caps rooms (begun caps rooms s) 0 calls)
-    × (fed caps rooms (begun caps rooms s .state) calls ≡ rust-fed caps rooms (begun caps rooms s .state) 0 calls)
-as-rust caps rooms s calls e E = all-steps caps rooms none (begun caps rooms s .state) (begun caps rooms s .state) 0 [] [] [] calls (started caps rooms s e) E
 
 -- ---- the Rust's rule, said as document 01 says it
 -- "If it differs from the last, the pipeline's instance slots join the dirty mask"

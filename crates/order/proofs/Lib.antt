@@ -17,8 +17,13 @@ pub mod Accept
 pub mod Induction
 pub mod Theorem
 pub mod OfRun
+pub mod PageDraws
+pub mod Trimmed
 pub mod Same
 pub mod Twin
 pub mod AsRust
-pub mod RanAsRust
+pub mod Rest
+pub mod PassAsRust
 pub mod NotEmpty
+pub mod Unbroken
+pub mod Stuck

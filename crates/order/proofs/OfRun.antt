@@ -38,10 +38,10 @@ use Rattle.book.specs.FirstPass.{found, named}
 use Rattle.order.proofs.Induction.{Goes, goes, Right, began, all-calls, as-many, found-is}
 
 -- ---- a call appends nothing to a run, or it is handed the run and appends behind what the state counts
-abbrev Lent : {A : Type 0} → List A → ℕ → ℕ → ℕ → ℕ → Type 0
+abbrev pub Lent : {A : Type 0} → List A → ℕ → ℕ → ℕ → ℕ → Type 0
 Lent xs handed room after before = (xs ≡ []) ⊎ ((handed ≡ room) × (after ≡ before))
 
-lends : (caps : PrivateCapabilities) (rooms : Rooms) (s : State) (c : Call)
+pub lends : (caps : PrivateCapabilities) (rooms : Rooms) (s : State) (c : Call)
     → Lent (meaning caps s c .commands) (meaning caps s c .handed rooms .commands) (rooms .commands) (meaning caps s c .after .progress .commands) (s .progress .commands)
     × Lent (meaning caps s c .bytes) (meaning caps s c .handed rooms .bytes) (rooms .bytes) (meaning caps s c .after .progress .bytes) (s .progress .bytes)
     × Lent (meaning caps s c .queries) (meaning caps s c .handed rooms .queries) (rooms .queries) (meaning caps s c .after .progress .queries) (s .progress .queries)
@@ -124,7 +124,7 @@ record Left (caps : PrivateCapabilities) (s : State) (r : Runs) (c : Call) (s′
   pub queries : queriesOf s′ r′ ≡ record-call caps (roomsOf r) (recordingOf s r) c .queries
 
 -- the counts of the state that a call goes on from
-counts : (caps : PrivateCapabilities) (s : State) (c : Call)
+pub counts : (caps : PrivateCapabilities) (s : State) (c : Call)
     → (meaning caps s c .after .progress .commands ≤ s .progress .commands) × (meaning caps s c .after .progress .bytes ≤ s .progress .bytes) × (meaning caps s c .after .progress .queries ≤ s .progress .queries)
 counts caps s c = go (goes caps s c)
   where
@@ -152,7 +152,7 @@ grown : {A : Type 0} (run xs : List A) (handed room after before : ℕ) → Lent
 grown run xs handed room after before (inl e) n h l k = subst (λ (ys : List _). after + length ys ≤ length run) (sym e) (omega arith)
 grown run xs handed room after before (inr (p, q)) n h l k = omega arith
 
-mapped-back : (cs : List Command) → map (λ (x : Record). x .command) (map recordOf cs) ≡ cs
+pub mapped-back : (cs : List Command) → map (λ (x : Record). x .command) (map recordOf cs) ≡ cs
 mapped-back [] = refl
 mapped-back (c ∷ cs) = ap (λ (l : List Command). c ∷ l) (mapped-back cs)
 
@@ -269,6 +269,17 @@ ran-records caps {s} {s′} {r} {r′} (then {r₁ = r₁} {c = c} {cs = cs} a d
     let L = left-by caps s r r₁ c a d W in
     let e : recordingOf (a .state) r₁ ≡ record-call caps (roomsOf r) (recordingOf s r) c = λ j. record { state = d .state j; list = L .list j; bytes = L .marks j; queries = L .queries j } in
     ran-records caps R (L .within) ∙ ap₂ (λ (x : Rooms) (y : Recording). record-calls caps x y cs) (L .rooms) e
+
+-- the runs stay as long as they were, and what the state counts stays within them
+pub ran-rooms : (caps : PrivateCapabilities) {s s′ : State} {r r′ : Runs} {cs : List Call} → Ran caps s r cs s′ r′ → Within s r → roomsOf r′ ≡ roomsOf r
+ran-rooms caps done W = refl
+ran-rooms caps {s} {s′} {r} {r′} (then {r₁ = r₁} {c = c} a d R) W =
+    let L = left-by caps s r r₁ c a d W in
+    ran-rooms caps R (L .within) ∙ L .rooms
+
+pub ran-within : (caps : PrivateCapabilities) {s s′ : State} {r r′ : Runs} {cs : List Call} → Ran caps s r cs s′ r′ → Within s r → Within s′ r′
+ran-within caps done W = W
+ran-within caps {s} {s′} {r} {r′} (then {r₁ = r₁} {c = c} a d R) W = ran-within caps R (left-by caps s r r₁ c a d W .within)
 
 -- what the functions answered is what the definition says of the calls
 done-is : (o : Outcome) → isDone o ≡ accepted o

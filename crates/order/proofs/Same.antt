@@ -1,104 +1,21 @@
 -- Demand 3's second sentence: two lists on one board, the same accepted draw calls of the first render pass in the same order,
--- and books that agree at each of them in every entry: equally many draws, and none differs. Assumes nothing.
+-- and books that agree at each of them in every entry, pipelines by what they say: equally many draws, and none differs. Assumes nothing.
 -- That the two passes have the same record, too, is not needed: what a draw finds of it, viewport and scissor, stands on the page.
 use mathlib.Core.Path.{_≡_, refl, sym, ap, ap₂, _∙_, subst}
-use mathlib.Core.Bool.{Bool, true, false, cond}
-use mathlib.Core.List.{List, [], _∷_, _++_, append-nil, append-assoc}
-use lib.ListN.{length}
+use mathlib.Core.List.{List, [], _∷_, map}
+use lib.ListN.{length, length-map}
 use Rattle.records.specs.declared.pipeline.PrivateCapabilities.{PrivateCapabilities}
-use Rattle.calls.specs.Call.{Call, begin-encoding, end-encoding, begin-render-pass, end-render-pass, begin-compute-pass, end-compute-pass, transition-buffers, transition-textures, clear-buffer, copy-buffer-to-buffer, copy-query-results, begin-query, end-query, write-timestamp, reset-queries, set-bind-group, set-immediates, set-render-pipeline, set-compute-pipeline, set-index-buffer, set-vertex-buffer, set-viewport, set-scissor-rect, set-stencil-reference, set-blend-constants, draw, draw-indexed, draw-indirect, draw-indexed-indirect, dispatch-workgroups, dispatch-workgroups-indirect}
-use Rattle.machine.specs.View.{Stage, before, first, later}
 use Rattle.machine.specs.Machine.{Shot, fresh, play}
-use Rattle.book.specs.Book.{Entered, Book, empty, inFirst, enter, Fed, enterFed, bookOf}
+use Rattle.book.specs.Book.{Entered, empty, Fed, bookOf}
 use Rattle.book.specs.Run.{fed, begun}
-use Rattle.book.specs.Pages.{Page, pageOf, DrawCall, noteCall, noteCalls, drawCalls, callsOf, pagesOf}
+use Rattle.book.specs.Pages.{DrawCall, trimmedPage, drawCalls, callsOf, pagesOf}
 use Rattle.book.specs.FirstPass.{found, shots, entries, named}
+use Rattle.book.specs.Ran.{answers, commandsOf}
 use Rattle.order.specs.Claim.{SameOrder, SameOrderOfRun}
 use Rattle.order.proofs.Theorem.{order}
-use Rattle.book.specs.Ran.{answers, commandsOf}
 use Rattle.order.proofs.OfRun.{order-of-run}
-
--- ---- the draws of the book are a function of the draw calls and their pages
-abbrev opened : Page → Book
-opened p =
-    record {
-      stage = first;
-      pipeline = p .pipeline;
-      reference = p .reference;
-      buffer = p .buffer;
-      index = p .index;
-      format = p .format;
-      offset = p .offset;
-      bound = p .bound;
-      viewport = p .viewport;
-      scissor = p .scissor;
-      blend = p .blend;
-      draws = [];
-    }
-
-unfoldable drawsOf : PrivateCapabilities → List DrawCall → List Entered
-drawsOf caps [] = []
-drawsOf caps (m ∷ ms) = enter caps (opened (m .page)) (m .call) .draws ++ drawsOf caps ms
-
-one-more : (caps : PrivateCapabilities) (ms : List DrawCall) (m : DrawCall) → drawsOf caps (ms ++ (m ∷ [])) ≡ drawsOf caps ms ++ enter caps (opened (m .page)) (m .call) .draws
-unfolding drawsOf
-one-more caps [] m = append-nil (enter caps (opened (m .page)) (m .call) .draws)
-one-more caps (x ∷ ms) m =
-    ap (λ (l : List Entered). enter caps (opened (x .page)) (x .call) .draws ++ l) (one-more caps ms m)
-    ∙ sym (append-assoc (enter caps (opened (x .page)) (x .call) .draws) (drawsOf caps ms) (enter caps (opened (m .page)) (m .call) .draws))
-
-drew : (caps : PrivateCapabilities) (st : Stage) (ds xs : List Entered) (ms : List DrawCall) (m : DrawCall) → ds ≡ drawsOf caps ms → xs ≡ enter caps (opened (m .page)) (m .call) .draws
-    → inFirst st xs ds ≡ drawsOf caps (inFirst st (m ∷ []) ms)
-drew caps before ds xs ms m e q = e
-drew caps first ds xs ms m e q = ap₂ (λ (a b : List Entered). a ++ b) e q ∙ sym (one-more caps ms m)
-drew caps later ds xs ms m e q = e
-
-entered-by : (caps : PrivateCapabilities) (b : Book) (ms : List DrawCall) (c : Call) → b .draws ≡ drawsOf caps ms → enter caps b c .draws ≡ drawsOf caps (noteCall b ms c)
-unfolding drawsOf
-entered-by caps b ms begin-encoding e = refl
-entered-by caps b ms end-encoding e = e
-entered-by caps b ms end-render-pass e = e
-entered-by caps b ms end-compute-pass e = e
-entered-by caps b ms (begin-render-pass d label set) e = e
-entered-by caps b ms (begin-compute-pass t label set) e = e
-entered-by caps b ms (transition-buffers l) e = e
-entered-by caps b ms (transition-textures l) e = e
-entered-by caps b ms (clear-buffer x range) e = e
-entered-by caps b ms (copy-buffer-to-buffer src dst l) e = e
-entered-by caps b ms (copy-query-results set start end dst offset) e = e
-entered-by caps b ms (begin-query set i) e = e
-entered-by caps b ms (end-query set i) e = e
-entered-by caps b ms (write-timestamp set i) e = e
-entered-by caps b ms (reset-queries set start end) e = e
-entered-by caps b ms (set-bind-group l i x g os) e = e
-entered-by caps b ms (set-immediates offset ws) e = e
-entered-by caps b ms (set-render-pipeline p) e = e
-entered-by caps b ms (set-compute-pipeline p) e = e
-entered-by caps b ms (set-index-buffer raw offset format) e = e
-entered-by caps b ms (set-vertex-buffer i raw offset) e = e
-entered-by caps b ms (set-viewport r d) e = e
-entered-by caps b ms (set-scissor-rect r) e = e
-entered-by caps b ms (set-stencil-reference v) e = e
-entered-by caps b ms (set-blend-constants c) e = e
-entered-by caps b ms (draw vertex vertices instance instances) e = drew caps (b .stage) (b .draws) _ ms (record { call = draw vertex vertices instance instances; page = pageOf b }) e refl
-entered-by caps b ms (draw-indexed fst count base instance instances) e = drew caps (b .stage) (b .draws) _ ms (record { call = draw-indexed fst count base instance instances; page = pageOf b }) e refl
-entered-by caps b ms (draw-indirect raw offset n) e = drew caps (b .stage) (b .draws) _ ms (record { call = draw-indirect raw offset n; page = pageOf b }) e refl
-entered-by caps b ms (draw-indexed-indirect raw offset n) e = drew caps (b .stage) (b .draws) _ ms (record { call = draw-indexed-indirect raw offset n; page = pageOf b }) e refl
-entered-by caps b ms (dispatch-workgroups x y z) e = e
-entered-by caps b ms (dispatch-workgroups-indirect raw offset) e = e
-
-all-noted : (caps : PrivateCapabilities) (b : Book) (ms : List DrawCall) (fs : List Fed) → b .draws ≡ drawsOf caps ms → bookOf caps b fs .draws ≡ drawsOf caps (noteCalls caps b ms fs)
-unfolding bookOf noteCalls
-all-noted caps b ms [] e = e
-all-noted caps b ms (f ∷ fs) e = all-noted caps (enterFed caps b f) (cond (f .accepted) (noteCall b ms (f .call)) ms) fs (go (f .accepted))
-  where
-    go : (t : Bool) → cond t (enter caps b (f .call)) b .draws ≡ drawsOf caps (cond t (noteCall b ms (f .call)) ms)
-    go true = entered-by caps b ms (f .call) e
-    go false = e
-
-draws-are : (caps : PrivateCapabilities) (fs : List Fed) → bookOf caps empty fs .draws ≡ drawsOf caps (drawCalls caps fs)
-unfolding drawsOf
-draws-are caps fs = all-noted caps empty [] fs refl
+use Rattle.order.proofs.PageDraws.{drawsOf, draws-are}
+use Rattle.order.proofs.Trimmed.{trimmedCall, draws-trim}
 
 -- ---- two lists of draw calls
 abbrev Cons : {A : Type 0} → List A → Type 0
@@ -113,24 +30,33 @@ abbrev rest : {A : Type 0} → List A → List A
 rest [] = []
 rest (x ∷ xs) = xs
 
-same-calls : (xs ys : List DrawCall) → callsOf xs ≡ callsOf ys → pagesOf xs ≡ pagesOf ys → xs ≡ ys
+same-calls : (xs ys : List DrawCall) → callsOf xs ≡ callsOf ys → pagesOf xs ≡ pagesOf ys → map trimmedCall xs ≡ map trimmedCall ys
 same-calls [] [] e q = refl
 same-calls [] (y ∷ ys) e q = absurd (subst Cons (sym e) tt)
 same-calls (x ∷ xs) [] e q = absurd (subst Cons e tt)
 same-calls (x ∷ xs) (y ∷ ys) e q =
     let c = ap (headOr (x .call)) e in
-    let p = ap (headOr (x .page)) q in
-    let m : x ≡ y = λ j. record { call = c j; page = p j } in
+    let p = ap (headOr (trimmedPage (x .page))) q in
+    let m : trimmedCall x ≡ trimmedCall y = λ j. record { call = c j; page = p j } in
     ap₂ (λ (a : DrawCall) (l : List DrawCall). a ∷ l) m (same-calls xs ys (ap rest e) (ap rest q))
 
-same-draws : (caps : PrivateCapabilities) (fs gs : List Fed) → callsOf (drawCalls caps fs) ≡ callsOf (drawCalls caps gs) → pagesOf (drawCalls caps fs) ≡ pagesOf (drawCalls caps gs)
-    → bookOf caps empty fs .draws ≡ bookOf caps empty gs .draws
-same-draws caps fs gs q r = draws-are caps fs ∙ ap (drawsOf caps) (same-calls (drawCalls caps fs) (drawCalls caps gs) q r) ∙ sym (draws-are caps gs)
+-- both books name the same at each draw
+same-named : (caps : PrivateCapabilities) (fs gs : List Fed) → callsOf (drawCalls caps fs) ≡ callsOf (drawCalls caps gs) → pagesOf (drawCalls caps fs) ≡ pagesOf (drawCalls caps gs)
+    → named (bookOf caps empty fs .draws) ≡ named (bookOf caps empty gs .draws)
+same-named caps fs gs q r =
+    ap named (draws-are caps fs)
+    ∙ sym (draws-trim caps (drawCalls caps fs))
+    ∙ ap (λ (ms : List DrawCall). named (drawsOf caps ms)) (same-calls (drawCalls caps fs) (drawCalls caps gs) q r)
+    ∙ draws-trim caps (drawCalls caps gs)
+    ∙ sym (ap named (draws-are caps gs))
 
--- what the draws of two machines find is what one book names
-same-found : (ss ts : List Shot) (ds es : List Entered) → (length ss ≡ length ds) × (found ds ss ≡ named ds) → (length ts ≡ length es) × (found es ts ≡ named es) → ds ≡ es
-    → (length ss ≡ length ts) × (found ds ss ≡ found ds ts)
-same-found ss ts ds es a b e = (a .0 ∙ ap length e ∙ sym (b .0), a .1 ∙ ap named e ∙ sym (b .1) ∙ ap (λ (l : List Entered). found l ts) (sym e))
+-- and what the draws of two machines find is what their books name
+same-found : (ss ts : List Shot) (ds es : List Entered) → (length ss ≡ length ds) × (found ds ss ≡ named ds) → (length ts ≡ length es) × (found es ts ≡ named es) → named ds ≡ named es
+    → (length ss ≡ length ts) × (found ds ss ≡ found es ts)
+same-found ss ts ds es a b e = (a .0 ∙ sizes ∙ sym (b .0), a .1 ∙ e ∙ sym (b .1))
+  where
+    sizes : length ds ≡ length es
+    sizes = sym (length-map ds (λ (d : Entered). d .view)) ∙ ap length e ∙ length-map es (λ (d : Entered). d .view)
 
 -- THE CLAIM'S SECOND SENTENCE: "for every two such lists on one board, whose first render passes have .. the same accepted draw calls in the same order,
 -- and whose books agree at each draw in every entry: both command lists have equally many draws there, and no draw differs"
@@ -138,10 +64,10 @@ pub same-order : SameOrder
 same-order caps rooms rooms′ s s′ calls calls′ e P e′ P′ q r =
     same-found (shots caps rooms s calls) (shots caps rooms′ s′ calls′) (entries caps rooms s calls) (entries caps rooms′ s′ calls′)
     (order caps rooms s calls e P) (order caps rooms′ s′ calls′ e′ P′)
-    (same-draws caps (fed caps rooms (begun caps rooms s .state) calls) (fed caps rooms′ (begun caps rooms′ s′ .state) calls′) q r)
+    (same-named caps (fed caps rooms (begun caps rooms s .state) calls) (fed caps rooms′ (begun caps rooms′ s′ .state) calls′) q r)
 
 -- the same of two runs of the code, by what its functions answered
 pub same-order-of-run : SameOrderOfRun
 same-order-of-run caps s₀ t₀ s′ t′ r₀ r r′ q₀ q q′ a b calls calls′ d e R P d′ e′ Q P′ x y =
     same-found (play fresh (commandsOf s′ r′) .shots) (play fresh (commandsOf t′ q′) .shots) (bookOf caps empty (answers R) .draws) (bookOf caps empty (answers Q) .draws)
-    (order-of-run caps s₀ s′ r₀ r r′ a calls d e R P) (order-of-run caps t₀ t′ q₀ q q′ b calls′ d′ e′ Q P′) (same-draws caps (answers R) (answers Q) x y)
+    (order-of-run caps s₀ s′ r₀ r r′ a calls d e R P) (order-of-run caps t₀ t′ q₀ q q′ b calls′ d′ e′ Q P′) (same-named caps (answers R) (answers Q) x y)

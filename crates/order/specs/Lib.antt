@@ -1,3 +1,4 @@
+pub mod Phases
 pub mod Claim
 pub mod Complete
 pub mod OneNumber

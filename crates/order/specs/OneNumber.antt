@@ -1,7 +1,7 @@
 -- The Rust's rule for instance slots, one number for all of them, and the sessions on which document 02, request 5, says that the list is the Rust's. Definitions only.
 use Prim.Native.Nat.{ℕ, _<_}
 use mathlib.Core.Path.{_≡_}
-use mathlib.Core.Bool.{Bool, true, cond}
+use mathlib.Core.Bool.{Bool, true, false, cond}
 use mathlib.Core.List.{List, [], _∷_}
 use mathlib.Core.Option.{Option, none, some}
 use lib.Dec.{ltb}
@@ -103,3 +103,11 @@ EvenAt o passes = Unit {0}
 unfoldable pub Even : PrivateCapabilities → Option RenderPipeline → List Fed → Type 0
 Even caps o [] = Unit {0}
 Even caps o (f ∷ fs) = (f .accepted ≡ true → EvenAt o (turnOf caps (f .call))) × Even caps (cond (f .accepted) (lastPipeline o (turnOf caps (f .call))) o) fs
+
+-- where it is asked: on the other boards the list is the same always
+abbrev pub EvenWhere : PrivateCapabilities → Option RenderPipeline → List Fed → Type 0
+EvenWhere caps o fs = caps .«vertex_buffer_layout» ≡ true → caps .«fully_featured_instancing» ≡ false → Even caps o fs
+
+-- what is recorded: the list, its marker bytes and its queries
+abbrev pub SameLists : Recording → Recording → Type 0
+SameLists r q = (r .list ≡ q .list) × (r .bytes ≡ q .bytes) × (r .queries ≡ q .queries)

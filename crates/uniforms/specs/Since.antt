@@ -1,4 +1,5 @@
 -- The history of a recording, as far as immediates go: document 02, request 6, "or were not sent since the last pipeline call". Definitions only.
+use Prim.Native.Nat.{ℕ, _+_, _/_, _≤_, _<_}
 use mathlib.Core.Bool.{Bool, true, false, cond}
 use mathlib.Core.List.{List, [], _∷_, _++_}
 use Rattle.records.specs.Check.{some?}
@@ -12,7 +13,7 @@ use Rattle.calls.specs.Step.{meaning, step}
 use Rattle.book.specs.Book.{Fed}
 use Rattle.book.specs.Run.{carried}
 use Rattle.uniforms.specs.Uniforms.{Effect, uses, loads, neither, effect}
-use Rattle.uniforms.specs.Rust.{Kind, begins, pipes, writes, other, kindOf}
+use Rattle.uniforms.specs.Kind.{Kind, begins, pipes, writes, other, kindOf}
 
 -- a pipeline call brings new descriptors, and `begin_encoding` starts without any
 abbrev pub renews : Kind → Bool
@@ -36,6 +37,14 @@ acceptedOf (f ∷ fs) = cond (f .accepted) (f .call ∷ acceptedOf fs) (accepted
 unfoldable pub sinceLast : List Call → List Call
 sinceLast [] = []
 sinceLast (c ∷ cs) = cond (some? (λ d. renews (kindOf d)) (c ∷ cs)) (cond (some? (λ d. renews (kindOf d)) cs) (sinceLast cs) cs) (c ∷ cs)
+
+-- a `set_immediates` was accepted since
+abbrev pub wroteSince : List Fed → Bool
+wroteSince fs = some? (λ c. isWrite (kindOf c)) (sinceLast (acceptedOf fs))
+
+-- "share a written word": one of the words from start to before end is one of the descriptor's
+abbrev pub SharesOne : ℕ → ℕ → ImmediateDesc → Type 0
+SharesOne start end d = (k : ℕ) × (start ≤ k) × (k < end) × (d .offset / 4 ≤ k) × (k < d .offset / 4 + d .«size_bytes» / 4)
 
 -- the descriptors of a list's `SetImmediates` commands
 abbrev pub sentBy : Effect → List ImmediateDesc

@@ -1,2 +1,2 @@
-// The machine of uniforms, the Rust's list before document 02's request 6, and the theorem that both
-// lists leave the same uniforms: only definitions and proofs, in specs/.
+// What the uniforms hold: the machine, what the accepted calls alone tell, the claim (specs/), and the
+// theorems that have it (proofs/). Only definitions and proofs.

@@ -35,13 +35,14 @@ use Rattle.machine.proofs.Lists.{each-always, each-with, or-left, or-right}
 use Rattle.order.proofs.Accepted.{passes, in-range}
 use Rattle.book.specs.Run.{carried, Recording, record-call, record-calls, fed, begun}
 use Rattle.uniforms.specs.Uniforms.{Machine, fresh, play}
-use Rattle.uniforms.specs.Rust.{Kind, begins, pipes, writes, other, kindOf, Lists, counting, rustDescriptors, rustAppends, rust-call, rust-lists, noLists, ours, rusts, ApartIn, Apartness}
-use Rattle.uniforms.specs.Loads.{valueOf, filter-all}
-use Rattle.uniforms.specs.Plays.{Within, inUse}
-use Rattle.uniforms.specs.Quiet.{acts-quiet}
-use Rattle.uniforms.specs.Means.{Means, means, begun-state}
-use Rattle.uniforms.specs.Kept.{Kept, kept-begins, kept-pipes, loadedBy, new-long, kept-writes}
-use Rattle.uniforms.specs.Appended.{heldBy, Sound, extended, appends, After, sending, after-acts, after-sent, after-begins, sound-next}
+use Rattle.uniforms.specs.Kind.{Kind, begins, pipes, writes, other, kindOf, ApartIn, Apartness}
+use Rattle.uniforms.specs.Rust.{Lists, counting, rustDescriptors, rustAppends, rust-call, rust-lists, noLists, ours, rusts}
+use Rattle.uniforms.proofs.Loads.{valueOf, filter-all}
+use Rattle.uniforms.proofs.Plays.{Within, inUse}
+use Rattle.uniforms.proofs.Quiet.{acts-quiet}
+use Rattle.uniforms.proofs.Means.{Means, means, begun-state}
+use Rattle.uniforms.proofs.Kept.{Kept, kept-begins, kept-pipes, loadedBy, new-long, kept-writes}
+use Rattle.uniforms.proofs.Appended.{heldBy, Sound, extended, appends, After, sending, after-acts, after-sent, after-begins, sound-next}
 
 -- ---- the invariant: the state, this recorder's list and the Rust's
 pub record Tied (s : State) (o r : Lists) : Type 0 where
@@ -50,7 +51,7 @@ pub record Tied (s : State) (o r : Lists) : Type 0 where
   pub kept : Kept (s .immediates) (heldBy o) (heldBy r)
 
 -- the Rust's list is as long as its own state says
-rust-sound : (s : State) (o r : Lists) → Tied s o r → Sound (counting r s) r
+pub rust-sound : (s : State) (o r : Lists) → Tied s o r → Sound (counting r s) r
 rust-sound s o r T = record { commands = refl; bytes = refl; within = T .rusts }
 
 -- the list goes on, or starts anew
@@ -74,7 +75,7 @@ tied-next s o r next m i f g T b A B e K =
     }
 
 -- no count of a carried-through call is above its run
-lent-enough : (rooms : Rooms) (s : State) (m : Meaning) → accepted (outcomeOf rooms s m) ≡ true → m .asks .room ≡ false
+pub lent-enough : (rooms : Rooms) (s : State) (m : Meaning) → accepted (outcomeOf rooms s m) ≡ true → m .asks .room ≡ false
 unfolding outcomeOf
 lent-enough rooms s m e =
     or-left (m .asks .room) (overRoom (progressAfter m) (m .handed rooms))
@@ -86,7 +87,7 @@ abbrev Next : Kind → State → Lists → Lists → Meaning → Meaning → Typ
 Next k s o r m n = Tied (withProgress (progressAfter m) (m .after)) (extended o m (appends m)) (extended r n (rustAppends k (counting r s) n))
 
 -- the Rust sends all
-rust-all : (s : State) (offset count : ℕ) → rustDescriptors s offset count ≡ descriptorsOf (s .immediates)
+pub rust-all : (s : State) (offset count : ℕ) → rustDescriptors s offset count ≡ descriptorsOf (s .immediates)
 rust-all s offset count = filter-all (always-overlaps (offset / 4) count) (descriptorsOf (s .immediates))
 
 by-writes : (s : State) (o r : Lists) (offset : ℕ) (ws : Lent) → Tied s o r → immediatesOutOfRange offset (ws .count) ≡ false → overRun ws ≡ false
@@ -151,14 +152,14 @@ by-kind other s o r m n T M N range room a =
     (M .immediates) (T .kept)
 
 -- a recording whose list and bytes are these
-abbrev over : State → Lists → List ℕ → Recording
+abbrev pub over : State → Lists → List ℕ → Recording
 over s o q = record { state = s; list = o .commands; bytes = o .bytes; queries = q }
 
 -- and the list and the bytes of one
-abbrev listsOf : Recording → Lists
+abbrev pub listsOf : Recording → Lists
 listsOf r = record { commands = r .list; bytes = r .bytes }
 
-one-call : (caps : PrivateCapabilities) (rooms : Rooms) (s : State) (o r : Lists) (q : List ℕ) (c : Call) → Tied s o r → (carried caps rooms s c ≡ true → ApartIn (kindOf c))
+pub one-call : (caps : PrivateCapabilities) (rooms : Rooms) (s : State) (o r : Lists) (q : List ℕ) (c : Call) → Tied s o r → (carried caps rooms s c ≡ true → ApartIn (kindOf c))
     → Tied (step caps rooms s c .state) (listsOf (record-call caps rooms (over s o q) c)) (cond (carried caps rooms s c) (rust-call caps s r c) r)
 one-call caps rooms s o r q c T P = go (carried caps rooms s c) refl
   where

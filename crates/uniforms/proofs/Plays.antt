@@ -16,7 +16,7 @@ use Rattle.numbers.specs.Bytes.{bytesOf}
 use Rattle.bindings.specs.Placed.{Good, good-cons, bytes-long, words-all}
 use Rattle.machine.specs.Each.{Each}
 use Rattle.uniforms.specs.Uniforms.{Machine, Effect, uses, loads, neither, load, effect, exec, play}
-use Rattle.uniforms.specs.Loads.{loaded}
+use Rattle.uniforms.proofs.Loads.{loaded}
 
 pub play-append : (b : List ℕ) (m : Machine) (xs ys : List Command) → play b m (xs ++ ys) ≡ play b (play b m xs) ys
 unfolding play

@@ -59,7 +59,7 @@ use Rattle.calls.specs.Draws.{DrawArgs, indexType, indirectCommands, indexedInd
 use Rattle.calls.specs.Transfers.{Barrier, synchronizes, textureUses, bufferBarrierCommands, textureBarrierCommands, onBoard, copyCommand, dispatchCommands}
 use Rattle.machine.specs.Each.{Each}
 use Rattle.uniforms.specs.Uniforms.{Machine, Effect, neither, effect, exec, play}
-use Rattle.uniforms.specs.Plays.{Inside, Within, each-append, Acts, acts-append, inUse, acts-uses}
+use Rattle.uniforms.proofs.Plays.{Inside, Within, each-append, Acts, acts-append, inUse, acts-uses}
 
 -- a record, so that a list is read off the proof of it
 pub record Quiet (cs : List Command) : Type 0 where

@@ -21,10 +21,10 @@ use Rattle.machine.specs.Each.{Each}
 use Rattle.machine.proofs.Lists.{true-false}
 use Rattle.book.specs.Run.{carried, Recording, record-call, record-calls, fed, begun}
 use Rattle.uniforms.specs.Uniforms.{Effect, neither, effect}
-use Rattle.uniforms.specs.Rust.{Kind, begins, pipes, writes, other, kindOf}
-use Rattle.uniforms.specs.Since.{renews, isWrite, acceptedOf, sinceLast, sentBy, sentIn, sentSince}
-use Rattle.uniforms.specs.Loads.{filter-all}
-use Rattle.uniforms.specs.Means.{Means, means, begun-state}
+use Rattle.uniforms.specs.Kind.{Kind, begins, pipes, writes, other, kindOf}
+use Rattle.uniforms.specs.Since.{renews, isWrite, acceptedOf, sinceLast, wroteSince, sentBy, sentIn, sentSince}
+use Rattle.uniforms.proofs.Loads.{filter-all}
+use Rattle.uniforms.proofs.Means.{Means, means, begun-state}
 
 -- ---- the flag, call by call
 abbrev flagAfter : Bool → Kind → Bool
@@ -96,7 +96,7 @@ flags-since t (c ∷ cs) = flags-since (flagAfter t (kindOf c)) cs ∙ go (kindO
 
 -- from a state whose descriptors were not sent
 pub flag-from : (caps : PrivateCapabilities) (rooms : Rooms) (r : Recording) (calls : List Call) → r .state .immediates .sent ≡ false
-    → record-calls caps rooms r calls .state .immediates .sent ≡ some? (λ c. isWrite (kindOf c)) (sinceLast (acceptedOf (fed caps rooms (r .state) calls)))
+    → record-calls caps rooms r calls .state .immediates .sent ≡ wroteSince (fed caps rooms (r .state) calls)
 flag-from caps rooms r calls e = all-flags caps rooms r calls ∙ ap (λ (t : Bool). flags t cs) e ∙ flags-since false cs ∙ go (news cs) refl
   where
     cs : List Call
@@ -108,7 +108,7 @@ flag-from caps rooms r calls e = all-flags caps rooms r calls ∙ ap (λ (t : Bo
 
 pub flag-is-history : (caps : PrivateCapabilities) (rooms : Rooms) (s : State) (calls : List Call) → carried caps rooms s begin-encoding ≡ true
     → record-calls caps rooms (begun caps rooms s) calls .state .immediates .sent
-    ≡ some? (λ c. isWrite (kindOf c)) (sinceLast (acceptedOf (fed caps rooms (begun caps rooms s .state) calls)))
+    ≡ wroteSince (fed caps rooms (begun caps rooms s .state) calls)
 flag-is-history caps rooms s calls e = flag-from caps rooms (begun caps rooms s) calls (ap (λ (x : State). x .immediates .sent) (begun-state caps rooms s e))
 
 -- ---- the descriptors that were sent

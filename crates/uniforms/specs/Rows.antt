@@ -1,36 +1,19 @@
--- Worked lists of immediates, by computation: what is sent and where, the theorem on one of them, and a location twice, which shows that its premise is needed. Assumes nothing.
+-- Worked lists of immediates: the calls after `begin_encoding`, and what is sent, where its bytes are, and what is refused. Definitions only; `all-rows` (proofs/Witness.antt) computes them.
 use Prim.Native.Nat.{ℕ}
-use mathlib.Core.Path.{_≡_, refl, sym, _∙_}
 use mathlib.Core.Bool.{cond}
-use mathlib.Core.List.{List, [], _∷_, _++_, map}
-use mathlib.Core.Option.{Option, some}
-use native.Mathlib.Omega.{arith}
-use lib.ListN.{length, replicate}
-use Rattle.mask.specs.Mask.{testBit, bitAt, setBit, without, maskOf, placesFrom}
-use Rattle.mask.specs.By.{maskBy}
-use Rattle.tables.specs.Tabulate.{tabulate}
-use Rattle.records.specs.Check.{some?, badUnits, among, twice}
-use Rattle.records.specs.Outcome.{number, smallest}
+use mathlib.Core.List.{List, [], _∷_, _++_}
+use lib.ListN.{replicate}
+use Rattle.records.specs.Outcome.{number}
 use Rattle.records.specs.Start.{startState}
 use Rattle.records.specs.declared.command.Command.{Command}
 use Rattle.records.specs.declared.command.ImmediateDesc.{ImmediateDesc}
 use Rattle.records.specs.declared.state.State.{State}
-use Rattle.bindings.specs.Immediates.{filter, immediateCommands, immediateBytes, immediatesOver}
-use Rattle.numbers.specs.Bytes.{bytesOf}
-use Rattle.bindings.specs.Units.{samplerCommands}
-use Rattle.pipeline.specs.Inner.{changedUnits}
-use Rattle.pipeline.specs.Fixed.{sameTargets}
-use Rattle.pass.specs.Render.{beginRenderCommands, attachColors, resolvesFrom, invalidations, clearColors}
 use Rattle.calls.specs.Call.{Call, begin-encoding, end-encoding, end-render-pass, end-compute-pass, set-compute-pipeline, set-immediates}
-use Rattle.calls.specs.Step.{outcomeOf, step}
-use Rattle.book.specs.Run.{carried, record-calls, fed, begun}
+use Rattle.calls.specs.Step.{step}
+use Rattle.book.specs.Run.{carried, record-calls, begun}
 use Rattle.cases.specs.Samples.{emulated, rooms, lent, innerOf, barePass}
 use Rattle.cases.specs.EdgeSamples.{compute, sending}
-use Rattle.cases.specs.Worked.{_⨾_}
-use Rattle.uniforms.specs.Uniforms.{Value, Effect, uses, loads, neither, effect, play}
-use Rattle.uniforms.specs.Rust.{rust-lists, noLists, ours, rusts, Apart, Apartness}
-use Rattle.uniforms.specs.Since.{sentIn}
-use Rattle.uniforms.specs.Theorem.{uniforms-same}
+use Rattle.uniforms.specs.Uniforms.{Effect, uses, loads, neither, effect}
 
 -- ---- what is looked at
 -- a descriptor that is sent, and the place of its bytes
@@ -75,20 +58,20 @@ said r = r .shown
 
 -- ---- descriptors and calls
 -- a float at word 0, a vector of two at words 2 and 3, and a size of 0 at word 1
-abbrev sun : ImmediateDesc
+abbrev pub sun : ImmediateDesc
 sun = record { location = 7; ty = 5126; offset = 0; «size_bytes» = 4 }
 
-abbrev wind : ImmediateDesc
+abbrev pub wind : ImmediateDesc
 wind = record { location = 8; ty = 35664; offset = 8; «size_bytes» = 8 }
 
-abbrev nothing : ImmediateDesc
+abbrev pub nothing : ImmediateDesc
 nothing = record { location = 9; ty = 5126; offset = 4; «size_bytes» = 0 }
 
 abbrev at : ℕ → ImmediateDesc → Sent
 at n d = record { desc = d; place = n }
 
 -- words from a word on
-abbrev write : ℕ → List ℕ → Call
+abbrev pub write : ℕ → List ℕ → Call
 write offset ws = set-immediates offset (lent ws)
 
 -- a compute pipeline of program 3
@@ -102,7 +85,7 @@ word n = n ∷ 0 ∷ 0 ∷ 0 ∷ []
 abbrev row : List Call → List Sent → List ℕ → List ℕ → Row
 row calls sent bytes refused = record { calls = calls; shown = record { sent = sent; bytes = bytes; refused = refused } }
 
-abbrev sliding : List Call
+abbrev pub sliding : List Call
 sliding =
     barePass
     ∷ sending (sun ∷ wind ∷ nothing ∷ [])
@@ -115,7 +98,7 @@ sliding =
     ∷ write 8 []
     ∷ []
 
-abbrev rows : List Row
+abbrev pub rows : List Row
 rows =
     -- the slider: the first call sends all, then the word that moved alone; an unused word and no word send nothing; a new pipeline call has all sent again
     row sliding (at 0 sun ∷ at 4 wind ∷ at 12 nothing ∷ at 12 sun ∷ at 16 sun ∷ at 20 wind ∷ at 28 nothing ∷ []) (word 5 ++ word 0 ++ word 0 ++ word 6 ++ word 6 ++ word 0 ++ word 0) (3 ∷ [])
@@ -159,63 +142,3 @@ rows =
     -- `begin_encoding` starts new lists, with all words 0
     ∷ row (barePass ∷ sending (sun ∷ []) ∷ write 0 (5 ∷ []) ∷ end-render-pass ∷ end-encoding ∷ begin-encoding ∷ barePass ∷ sending (sun ∷ []) ∷ write 4 [] ∷ []) (at 0 sun ∷ []) (word 0) []
     ∷ []
-
-pub all-rows : map seen rows ≡ map said rows
-unfolding record-calls refusals sents outcomeOf smallest some? badUnits among twice testBit bitAt setBit without maskOf placesFrom maskBy tabulate samplerCommands changedUnits
-    sameTargets beginRenderCommands attachColors resolvesFrom invalidations clearColors bytesOf filter immediateCommands immediateBytes immediatesOver
-all-rows = refl
-
--- ---- the theorem on the slider
-apart-three : Apart (sun ∷ wind ∷ nothing ∷ [])
-apart-three = (((λ e. omega (arith, e)), ((λ e. omega (arith, e)), tt)), (((λ e. omega (arith, e)), tt), (tt, tt)))
-
-pub its-apart : Apartness (fed emulated rooms (begun emulated rooms startState .state) sliding)
-unfolding Apartness fed
-its-apart = (λ a. tt) ⨾ (λ a. apart-three) ⨾ (λ a. tt) ⨾ (λ a. tt) ⨾ (λ a. tt) ⨾ (λ a. tt) ⨾ (λ a. tt) ⨾ (λ a. apart-three) ⨾ (λ a. tt) ⨾ tt
-
-abbrev six : Option Value
-six = some (record { ty = 5126; bytes = 6 ∷ 0 ∷ 0 ∷ 0 ∷ [] })
-
-sun-here : ours emulated rooms startState sliding .uniform 1 7 ≡ six
-unfolding record-calls play outcomeOf smallest some? badUnits among twice testBit bitAt setBit without maskOf placesFrom maskBy tabulate samplerCommands changedUnits sameTargets
-    beginRenderCommands attachColors resolvesFrom invalidations clearColors bytesOf filter immediateCommands immediateBytes immediatesOver
-sun-here = refl
-
--- in the Rust's list by the theorem
-pub its-sun : (ours emulated rooms startState sliding .uniform 1 7 ≡ six) × (rusts emulated rooms startState sliding .uniform 1 7 ≡ six)
-unfolding outcomeOf smallest some? badUnits among twice testBit
-its-sun = (sun-here, sym (uniforms-same emulated rooms startState sliding refl its-apart .1 1 7) ∙ sun-here)
-
--- seven uniforms are sent where the Rust sends fifteen
-pub its-fewer :
-    (length (sentIn (record-calls emulated rooms (begun emulated rooms startState) sliding .list)) ≡ 7)
-    × (length (sentIn (rust-lists emulated rooms (begun emulated rooms startState .state) noLists sliding .commands)) ≡ 15)
-unfolding record-calls rust-lists sentIn outcomeOf smallest some? badUnits among twice testBit bitAt setBit without maskOf placesFrom maskBy tabulate samplerCommands changedUnits sameTargets
-    beginRenderCommands attachColors resolvesFrom invalidations clearColors bytesOf filter immediateCommands immediateBytes immediatesOver
-its-fewer = (refl, refl)
-
--- ---- without the premise: two descriptors at one location
-abbrev lower : ImmediateDesc
-lower = record { location = 0; ty = 5126; offset = 0; «size_bytes» = 4 }
-
-abbrev upper : ImmediateDesc
-upper = record { location = 0; ty = 5126; offset = 4; «size_bytes» = 4 }
-
-abbrev shared : List Call
-shared = barePass ∷ sending (lower ∷ upper ∷ []) ∷ write 0 (1 ∷ 2 ∷ []) ∷ write 0 (3 ∷ []) ∷ []
-
-pub not-apart : Apartness (fed emulated rooms (begun emulated rooms startState .state) shared) → ⊥
-unfolding Apartness fed outcomeOf smallest some? badUnits among twice testBit bitAt setBit without maskOf placesFrom maskBy tabulate samplerCommands changedUnits sameTargets
-    beginRenderCommands attachColors resolvesFrom invalidations clearColors
-not-apart P = P .1 .0 refl .0 .0 refl
-
--- word 0 alone is sent, and the location holds it; the Rust sends word 1 behind it
-pub here-three : ours emulated rooms startState shared .uniform 1 0 ≡ some (record { ty = 5126; bytes = 3 ∷ 0 ∷ 0 ∷ 0 ∷ [] })
-unfolding record-calls play outcomeOf smallest some? badUnits among twice testBit bitAt setBit without maskOf placesFrom maskBy tabulate samplerCommands changedUnits sameTargets
-    beginRenderCommands attachColors resolvesFrom invalidations clearColors bytesOf filter immediateCommands immediateBytes immediatesOver
-here-three = refl
-
-pub rust-two : rusts emulated rooms startState shared .uniform 1 0 ≡ some (record { ty = 5126; bytes = 2 ∷ 0 ∷ 0 ∷ 0 ∷ [] })
-unfolding rust-lists play outcomeOf smallest some? badUnits among twice testBit bitAt setBit without maskOf placesFrom maskBy tabulate samplerCommands changedUnits sameTargets
-    beginRenderCommands attachColors resolvesFrom invalidations clearColors bytesOf filter immediateCommands immediateBytes immediatesOver
-rust-two = refl

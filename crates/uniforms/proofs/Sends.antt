@@ -1,7 +1,7 @@
 -- Document 02, request 6: "exactly the descriptors that share a written word or were not sent since the last pipeline call", word for word, in every state that calls leave. Assumes nothing.
-use Prim.Native.Nat.{ℕ, _+_, _/_, _≤_, _<_}
+use Prim.Native.Nat.{ℕ}
 use mathlib.Core.Path.{_≡_, refl, sym, ap, subst}
-use mathlib.Core.Bool.{Bool, true, false, not, _||_}
+use mathlib.Core.Bool.{Bool, true, false, _||_}
 use mathlib.Core.List.{List, [], List·Memᴰ, List·Memᴰ·not-nil}
 use mathlib.Core.Logic.{_⊎_, inl, inr, _↔_}
 use Rattle.records.specs.declared.check.Rooms.{Rooms}
@@ -15,12 +15,8 @@ use Rattle.calls.specs.Call.{Call, begin-encoding}
 use Rattle.machine.specs.Each.{Each}
 use Rattle.machine.proofs.Lists.{each-always, each-with}
 use Rattle.book.specs.Run.{carried, record-calls, begun}
-use Rattle.uniforms.specs.Since.{sentSince}
-use Rattle.uniforms.specs.History.{sent-is-each}
-
--- a word from start to before end is one of the descriptor's
-abbrev pub SharesOne : ℕ → ℕ → ImmediateDesc → Type 0
-SharesOne start end d = (k : ℕ) × (start ≤ k) × (k < end) × (d .offset / 4 ≤ k) × (k < d .offset / 4 + d .«size_bytes» / 4)
+use Rattle.uniforms.specs.Since.{SharesOne, sentSince}
+use Rattle.uniforms.proofs.History.{sent-is-each}
 
 or-false : (t : Bool) → t || false ≡ true → t ≡ true
 or-false true e = refl

@@ -17,9 +17,9 @@ use Rattle.calls.specs.Parts.{withProgress}
 use Rattle.calls.specs.Step.{progressAfter}
 use Rattle.uniforms.specs.Uniforms.{Machine, fresh, play, held}
 use Rattle.uniforms.specs.Rust.{Lists, noLists}
-use Rattle.uniforms.specs.Plays.{Within, within-append, play-append, play-more, play-sent, within-sent, Acts}
-use Rattle.uniforms.specs.Means.{Begins}
-use Rattle.uniforms.specs.Kept.{loadedBy}
+use Rattle.uniforms.proofs.Plays.{Within, within-append, play-append, play-more, play-sent, within-sent, Acts}
+use Rattle.uniforms.proofs.Means.{Begins}
+use Rattle.uniforms.proofs.Kept.{loadedBy}
 
 abbrev pub heldBy : Lists → Machine
 heldBy l = held (l .bytes) (l .commands)

@@ -23,9 +23,9 @@ use Rattle.calls.specs.Transfers.{bufferBarriers, regionsOf}
 use Rattle.calls.specs.Step.{setImmediates, meaning, progressAfter}
 use Rattle.machine.proofs.Lists.{or-right}
 use Rattle.book.specs.Run.{carried, begun}
-use Rattle.uniforms.specs.Rust.{Kind, begins, pipes, writes, other, kindOf}
-use Rattle.uniforms.specs.Plays.{Acts, inUse}
-use Rattle.uniforms.specs.Quiet.{Quiet, quiet-nil, quiet-one, quiet-begin-render, quiet-begin-compute, quiet-end-compute, quiet-end-render, quiet-buffers, quiet-textures, quiet-copies, quiet-dispatch, quiet-group, quiet-drawing, quiet-indirect, quiet-indexed, quiet-funcs, acts-inner, acts-pipeline}
+use Rattle.uniforms.specs.Kind.{Kind, begins, pipes, writes, other, kindOf}
+use Rattle.uniforms.proofs.Plays.{Acts, inUse}
+use Rattle.uniforms.proofs.Quiet.{Quiet, quiet-nil, quiet-one, quiet-begin-render, quiet-begin-compute, quiet-end-compute, quiet-end-render, quiet-buffers, quiet-textures, quiet-copies, quiet-dispatch, quiet-group, quiet-drawing, quiet-indirect, quiet-indexed, quiet-funcs, acts-inner, acts-pipeline}
 
 -- new lists, and the starting values
 pub record Begins (m : Meaning) : Type 0 where

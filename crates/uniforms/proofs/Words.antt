@@ -14,7 +14,7 @@ use Rattle.bindings.specs.Shared.{shared-yes}
 use Rattle.machine.proofs.Lists.{true-false}
 
 -- a word before those written, or behind them
-old-words : (l ws : List ℕ) (at i : ℕ) → at + length ws ≤ length l → (i < at) ⊎ (at + length ws ≤ i) → getD (overwritten l at ws) i 0 ≡ getD l i 0
+pub old-words : (l ws : List ℕ) (at i : ℕ) → at + length ws ≤ length l → (i < at) ⊎ (at + length ws ≤ i) → getD (overwritten l at ws) i 0 ≡ getD l i 0
 old-words l ws at i h (inl k) =
     List·getD-append (take at l) (ws ++ drop (at + length ws) l) 0 i (subst (λ (n : ℕ). i < n) (sym (length-take-le at l (omega arith))) k) ∙ getD-take at l i 0 k
 old-words l ws at i h (inr k) =

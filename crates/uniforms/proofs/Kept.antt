@@ -18,10 +18,10 @@ use Rattle.pipeline.specs.Inner.{innerDescriptors, innerImmediates}
 use Rattle.machine.specs.Each.{Each}
 use Rattle.machine.proofs.Lists.{false-true, or-left, or-right, not-false}
 use Rattle.uniforms.specs.Uniforms.{Machine, fresh}
-use Rattle.uniforms.specs.Rust.{Apart}
-use Rattle.uniforms.specs.Words.{overwritten-long, unshared}
-use Rattle.uniforms.specs.Loads.{valueOf, Same, loaded, loaded-none, filter-same, all-loaded}
-use Rattle.uniforms.specs.Plays.{inUse}
+use Rattle.uniforms.specs.Kind.{Apart}
+use Rattle.uniforms.proofs.Words.{overwritten-long, unshared}
+use Rattle.uniforms.proofs.Loads.{valueOf, Same, loaded, loaded-none, filter-same, all-loaded}
+use Rattle.uniforms.proofs.Plays.{inUse}
 
 pub record Kept (i : ImmediateState) (here there : Machine) : Type 0 where
   pub program : here .program ≡ there .program

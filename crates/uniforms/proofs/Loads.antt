@@ -14,7 +14,7 @@ use Rattle.numbers.specs.Bytes.{bytesOf}
 use Rattle.machine.specs.Each.{Each}
 use Rattle.machine.proofs.Lists.{each-with}
 use Rattle.uniforms.specs.Uniforms.{Value, Uniforms, load}
-use Rattle.uniforms.specs.Rust.{Apart}
+use Rattle.uniforms.specs.Kind.{Apart}
 
 -- a descriptor's value, where these are the words
 abbrev pub valueOf : List ℕ → ImmediateDesc → Value

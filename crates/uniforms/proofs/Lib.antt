@@ -1,0 +1,14 @@
+pub mod Words
+pub mod Loads
+pub mod Plays
+pub mod Quiet
+pub mod Means
+pub mod Kept
+pub mod Appended
+pub mod Theorem
+pub mod RanUniforms
+pub mod History
+pub mod Sends
+pub mod ToldHolds
+pub mod SendsOfRun
+pub mod Witness
