@@ -3,10 +3,13 @@
 that end in `show`. For each pair a line `equal`, `draw K` or `refused N`, worked out from its printed lists; the program's own line ends a pair and is
 not looked at. Written from documents 01 and 02; it shares no code with the library."""
 import math
+import os
 import struct
 import sys
 
-DRAWS = {"Draw", "DrawIndexed", "DrawIndirect", "DrawIndexedIndirect"}
+sys.path.insert(0, os.path.dirname(os.path.abspath(__file__)))
+from machine import DRAWS, Machine  # noqa: E402  (tools/lists/machine.py)
+
 COLOR_ATTACHMENT0 = 0x8CE0  # OpenGL ES 3.2: 0 to 31 have names, one after another
 PLACES, LOCATIONS = 8, 16
 # commands with one number that has a limit, by 3: which field, and the first number that is out of range
@@ -79,46 +82,18 @@ def float_of(bits):
     return struct.unpack(">f", bytes.fromhex(bits))[0]
 
 
-class Machine:
-    """What a draw can find, as far as it is compared."""
-    def __init__(self):
-        self.attributes, self.buffers, self.program, self.blend = {}, {}, None, ("00000000",) * 4
-
-    def play(self, words):
-        name, f = words[0], words[1:]
-        if name == "SetVertexAttribute":
-            buffer, step, stride, location, offset, slot, *form = f
-            self.attributes[int(location)] = (buffer, step, int(stride), int(offset), int(slot), tuple(form))
-        elif name == "UnsetVertexAttribute":
-            self.attributes.pop(int(f[0]), None)
-        elif name == "SetVertexBuffer":
-            self.buffers[int(f[0])] = (f[1], int(f[2]), f[3], int(f[4]))
-        elif name == "SetProgram":
-            self.program = f[0]
-        elif name == "SetBlendConstant":
-            self.blend = tuple(f)
-
-    def fetch(self, location):
-        """Format, buffer, first byte, stride and step; only the format where the slot has no buffer."""
-        buffer, step, stride, offset, slot, form = self.attributes[location]
-        if buffer != "-":
-            return form, (buffer, offset, stride, step)
-        if slot not in self.buffers:
-            return form, None
-        raw, base, step, stride = self.buffers[slot]
-        return form, (raw, offset + base, stride, step)
-
-    def found(self):
-        return {location: self.fetch(location) for location in self.attributes}, self.program, self.blend
+def found(machine):
+    """What a draw finds, as far as it is compared: format and source by location, program, blend constants."""
+    return {location: machine.fetch(location)[1:] for location in machine.attributes}, machine.one.get("program"), machine.one["blend"]
 
 
 def found_by_draws(given):
-    machine, found = Machine(), []
+    machine, draws = Machine(), []
     for words in given.lines:
         if words[0] in DRAWS:
-            found.append(machine.found())
+            draws.append(found(machine))
         machine.play(words)
-    return found
+    return draws
 
 
 def same_bits(x, y):
@@ -138,9 +113,9 @@ def alike(same, with_layout, without):
     return all(fetches.get(location) == fetch for location, fetch in wanted.items()) and program == other and all(map(same, blend, constants))
 
 
-def by_draws(same, found):
+def by_draws(same, draws):
     """The answer, from what each two draws find."""
-    for k, (x, y) in enumerate(found):
+    for k, (x, y) in enumerate(draws):
         if not alike(same, x, y):
             return f"draw {k}"
     return "equal"
@@ -153,8 +128,8 @@ def answers(a, b):
         refused = {9}
     if refused:
         return (f"refused {min(refused)}",) * 2
-    found = list(zip(found_by_draws(a), found_by_draws(b)))
-    return by_draws(same_bits, found), by_draws(same_number, found)
+    draws = list(zip(found_by_draws(a), found_by_draws(b)))
+    return by_draws(same_bits, draws), by_draws(same_number, draws)
 
 
 def remains(before, answer):
