@@ -3,6 +3,7 @@ pub mod Called
 pub mod Folded
 pub mod Folding
 pub mod FoldingFirst
+pub mod Looking
 pub mod Mapped
 pub mod Copying
 pub mod Sifted
@@ -14,6 +15,7 @@ pub mod RewritingOn
 pub mod Reading
 pub mod Replacing
 pub mod Again
+pub mod Shared
 pub mod Passing
 pub mod Comparing
 pub mod ComparingAll

@@ -4,15 +4,12 @@ use mathlib.Core.Path.{_≡_, refl, _∙_, ap, sym}
 use mathlib.Core.Bool.{Bool, true, false, not}
 use mathlib.Core.List.{List, [], _∷_, _++_, append-assoc, append-nil}
 use Prim.Native.Nat.{ℕ, suc, _+_, _-_, _<_, _≤_}
-use native.Mathlib.Nat.{add-zero, add-suc, suc-add, zero-add}
 use native.Mathlib.Numerals.{add-one}
 use native.Mathlib.Omega.{arith}
 use lib.Dec.{T}
 use lib.ListN.{length, take, drop, getD, set, length-append, length-drop}
 use lib.Seq.{take-suc, drop-cons, set-at, getD-drop, getD-append-add, length-take-le}
-use Rattle.list_walks.specs.Fold.{foldAt}
 use Rattle.list_walks.specs.Sift.{putIf, sifted, over}
-use Rattle.list_walks.proofs.Folded.{fold-more}
 
 pub is-true : (t : Bool) → T t → t ≡ true
 is-true true h = refl
@@ -22,56 +19,41 @@ pub is-false : (t : Bool) → T (not t) → t ≡ false
 is-false true h = absurd h
 is-false false h = refl
 
-module _ {A : Type 0} {X : Type 0} (keep : A → ℕ → X → Bool) (step : A → ℕ → X → A) where
+module _ {X : Type 0} (keep : X → Bool) where
   put-append : (t : Bool) (x : X) (xs ys : List X) → putIf t x (xs ++ ys) ≡ putIf t x xs ++ ys
   put-append true x xs ys = refl
   put-append false x xs ys = refl
 
-  pub sift-more : (a : A) (i : ℕ) (xs : List X) (x : X) → sifted keep step a i (xs ++ (x ∷ [])) ≡ sifted keep step a i xs ++ putIf
-      (keep (foldAt step a i xs) (i + length xs) x) x []
-  unfolding sifted foldAt
-  sift-more a i [] x = ap (λ (k : ℕ). putIf (keep a k x) x []) (sym (add-zero i))
-  sift-more a i (y ∷ ys) x =
-      ap (putIf (keep a i y) y) (sift-more (step a i y) (suc i) ys x)
-      ∙ ap (λ (k : ℕ). putIf (keep a i y) y (sifted keep step (step a i y) (suc i) ys ++ putIf (keep (foldAt step (step a i y) (suc i) ys) k x) x []))
-      (suc-add i (length ys) ∙ sym (add-suc i (length ys)))
-      ∙ put-append (keep a i y) y _ _
+  pub sift-more : (xs : List X) (x : X) → sifted keep (xs ++ (x ∷ [])) ≡ sifted keep xs ++ putIf (keep x) x []
+  unfolding sifted
+  sift-more [] x = refl
+  sift-more (y ∷ ys) x = ap (putIf (keep y) y) (sift-more ys x) ∙ put-append (keep y) y _ _
 
   put-short : (t : Bool) (x : X) (xs : List X) (n : ℕ) → length xs ≤ n → length (putIf t x xs) ≤ suc n
   put-short true x xs n h = omega arith
   put-short false x xs n h = omega arith
 
-  pub sift-short : (a : A) (i : ℕ) (xs : List X) → length (sifted keep step a i xs) ≤ length xs
+  pub sift-short : (xs : List X) → length (sifted keep xs) ≤ length xs
   unfolding sifted
-  sift-short a i [] = omega arith
-  sift-short a i (x ∷ xs) = put-short (keep a i x) x _ (length xs) (sift-short (step a i x) (suc i) xs)
+  sift-short [] = omega arith
+  sift-short (x ∷ xs) = put-short (keep x) x _ (length xs) (sift-short xs)
 
-  module _ (a : A) (l : List X) where
+  module _ (l : List X) where
     -- what is kept of the first i
     abbrev pub kept : ℕ → List X
-    kept i = sifted keep step a 0 (take i l)
+    kept i = sifted keep (take i l)
 
-    abbrev pub value : ℕ → A
-    value i = foldAt step a 0 (take i l)
+    kept-next : (i : ℕ) (d : X) → i < length l → kept (i + 1) ≡ kept i ++ putIf (keep (getD l i d)) (getD l i d) []
+    kept-next i d h = ap (λ (m : ℕ). kept m) (add-one i) ∙ ap (sifted keep) (take-suc l i d h) ∙ sift-more (take i l) (getD l i d)
 
-    pub value-next : (i : ℕ) (d : X) → i < length l → value (i + 1) ≡ step (value i) i (getD l i d)
-    value-next i d h =
-        ap (λ (m : ℕ). value m) (add-one i) ∙ ap (foldAt step a 0) (take-suc l i d h) ∙ fold-more step a 0 (take i l) (getD l i d)
-        ∙ ap (λ (k : ℕ). step (value i) k (getD l i d)) (zero-add (length (take i l)) ∙ length-take-le i l (omega arith))
-
-    kept-next : (i : ℕ) (d : X) → i < length l → kept (i + 1) ≡ kept i ++ putIf (keep (value i) i (getD l i d)) (getD l i d) []
-    kept-next i d h =
-        ap (λ (m : ℕ). kept m) (add-one i) ∙ ap (sifted keep step a 0) (take-suc l i d h) ∙ sift-more a 0 (take i l) (getD l i d)
-        ∙ ap (λ (k : ℕ). kept i ++ putIf (keep (value i) k (getD l i d)) (getD l i d) []) (zero-add (length (take i l)) ∙ length-take-le i l (omega arith))
-
-    pub kept-more : (i : ℕ) (d : X) → i < length l → keep (value i) i (getD l i d) ≡ true → kept (i + 1) ≡ kept i ++ (getD l i d ∷ [])
+    pub kept-more : (i : ℕ) (d : X) → i < length l → keep (getD l i d) ≡ true → kept (i + 1) ≡ kept i ++ (getD l i d ∷ [])
     kept-more i d h e = kept-next i d h ∙ ap (λ (t : Bool). kept i ++ putIf t (getD l i d) []) e
 
-    pub kept-same : (i : ℕ) (d : X) → i < length l → keep (value i) i (getD l i d) ≡ false → kept (i + 1) ≡ kept i
+    pub kept-same : (i : ℕ) (d : X) → i < length l → keep (getD l i d) ≡ false → kept (i + 1) ≡ kept i
     kept-same i d h e = kept-next i d h ∙ ap (λ (t : Bool). kept i ++ putIf t (getD l i d) []) e ∙ append-nil (kept i)
 
     pub kept-short : (i : ℕ) → i ≤ length l → length (kept i) ≤ i
-    kept-short i h = omega (arith, sift-short a 0 (take i l), length-take-le i l h)
+    kept-short i h = omega (arith, sift-short (take i l), length-take-le i l h)
 
 -- ---- `over`
 module _ {X : Type 0} (l : List X) where

@@ -20,6 +20,9 @@ use Rattle.records.specs.declared.command.OptionU32.{OptionU32}
 use Rattle.records.specs.declared.command.OptionU32.the-variants.{None, Some}
 use Rattle.records.specs.declared.command.RangeU32.{RangeU32}
 use Rattle.records.specs.declared.command.Record.{Record}
+use Rattle.records.specs.declared.outcome.Conditions.{Conditions}
+use Rattle.records.specs.declared.outcome.Outcome.{Outcome}
+use Rattle.records.specs.Outcome.{smallest}
 use Rattle.lists.specs.declared.limits.Breaks.{Breaks}
 use Rattle.lists.specs.declared.limits.Used.{Used}
 use Rattle.lists.specs.Class.{commandsOf}
@@ -144,3 +147,14 @@ brokenBy l =
       range = some? (λ c. breaks (l .used) c .range) (l .commands);
       room = overCounts (l .room) (l .used) || some? (λ c. breaks (l .used) c .room) (l .commands);
     }
+
+-- ---- the answer to a list that is handed in
+abbrev pub broken : Breaks → Bool
+broken b = b .many || (b .range || b .room)
+
+-- "turned away like a state": of document 01's conditions a list can meet 2, 3 and 7
+abbrev pub conditionsOf : Breaks → Conditions
+conditionsOf b = record { phase = false; many = b .many; range = b .range; absent = false; kind = false; sum = false; room = b .room }
+
+abbrev pub refusalOf : Breaks → Outcome
+refusalOf b = smallest (conditionsOf b)

@@ -5,7 +5,7 @@ ghost use Prim.Native.Nat.{_+_, _^_, _≤_, _<_};
 ghost use lib.ListN.{length};
 ghost use Rattle.list_walks.specs.Fold.{foldAt, part};
 ghost use Rattle.lists.specs.Limits.{keeps as keepsOf, tooMany, outOfRange, beyondRun, reversed as reversedOf, badTarget, badAttachment};
-ghost use Rattle.lists.specs.Limits.{queryBreaks, markerBreaks, immediateBreaks, breaks, eitherBreaks, overCounts};
+ghost use Rattle.lists.specs.Limits.{queryBreaks, markerBreaks, immediateBreaks, breaks, eitherBreaks, overCounts, broken, refusalOf};
 ghost use Rattle.lists.specs.Survey.{lookedAt, firstSurvey, surveyRecord, surveyOf};
 use crate::class::class_of;
 use crate::class::is_draw;
@@ -20,6 +20,9 @@ use records::command::Record;
 use records::limits::MAX_BYTES;
 use records::limits::MAX_COMMANDS;
 use records::limits::MAX_QUERIES;
+use records::outcome::Conditions;
+use records::outcome::Outcome;
+use records::outcome::outcome_of;
 
 // The colour attachments that OpenGL ES names and that no place has: from the first to past the last.
 const COLOR_ATTACHMENT8: u32 = 0x8ce8;
@@ -249,4 +252,33 @@ pub fn survey(list: &[Record], used: Used) -> Surveyed
     let n = looked_at(used, room);
     let acc = first_survey(used, room);
     survey_between(list, 0, n, acc)
+}
+
+// The same of a list that is lent to be written: it is left as it was.
+pub fn survey_lent(list: &mut [Record], used: Used) -> Surveyed
+    ensures { λ r. ⌜ (r ≡ surveyOf (now (list .entry)) used) × (now (list .exit) ≡ now (list .entry)) ⌝ }
+{
+    survey(list, used)
+}
+
+// A limit is broken.
+pub fn is_broken(breaks: Breaks) -> bool
+    ensures { λ r. ⌜ r ≡ broken breaks ⌝ }
+{
+    breaks.many | (breaks.range | breaks.room)
+}
+
+// What the list is turned away with: the smallest number whose condition holds, or none.
+pub fn refusal_of(breaks: Breaks) -> Outcome
+    ensures { λ r. ⌜ r ≡ refusalOf breaks ⌝ }
+{
+    outcome_of(Conditions {
+        phase: false,
+        many: breaks.many,
+        range: breaks.range,
+        absent: false,
+        kind: false,
+        sum: false,
+        room: breaks.room,
+    })
 }

@@ -1,7 +1,7 @@
 -- Every function of the form
 --     fn f(list: &mut [R], a: A, ..) -> An { S; ..; S; answer(x, ..) }        or with no result
 --     fn f(list: &mut [R], run: &mut [uN], load: &[uM], set: &[uK], a: A, ..) -> An { S; ..; S; answer(x, ..) }
--- where each S is `let y = g(x, ..);`, `let y = g(list.len(), x, ..);`, `let y = g(list, x, ..);` or `g(list, x, ..);`, in the second form once `let y = g(list, run, load, set, x, ..);`, and the x are parameters and what was let before, of any types of plain data (`Args.antt`'s `Datum`): its MIR (`function`) meets every contract that follows from what the callees ensure (`Chain`). The list is lent again for each call that takes it.
+-- where each S is `let y = g(x, ..);`, `let y = g(list.len(), x, ..);`, `let y = g(list, x, ..);` (`let-asked` where g requires something of the list's length) or `g(list, x, ..);`, in the second form once `let y = g(list, run, load, set, x, ..);`, and the x are parameters and what was let before, of any types of plain data (`Args.antt`'s `Datum`): its MIR (`function`) meets every contract that follows from what the callees ensure (`Chain`). The list is lent again for each call that takes it.
 --     Prog m i b       the statements that are left, where m locals of plain data have a value, i calls have taken the list, and b: the runs are still to be lent
 --     Chain            what is to be shown of them: that a call may be made, and that the contract follows. `Cites`      that the callees meet their contracts
 -- An argument is the number of its local, 0 for the first plain parameter. The lets are numbered on from the parameters, in their order.
@@ -220,6 +220,7 @@ module _ (𝓢 : Shape) (rs : Bool) (Vs : List Datum) where
     let-len : {m i : ℕ} {b : Bool} → Holds (𝓢 .len) → (f : Name) (is : List ℕ) → Knowns Vs m is → Vacant Vs m → (a : Ask (ℕ × Dens (argDs Vs is))) (gives : ℕ → Dens (argDs Vs is) → datumAt Vs m .D → Type 0) → Prog (suc m) i b → Prog m i b
     onto : {m i : ℕ} {b : Bool} → Holds (𝓢 .unit) → (g : Name) (is : List ℕ) → Knowns Vs m is → Here (𝓢 .lends) i → (Dens (argDs Vs is) → ℕ → Type 0) → (Dens (argDs Vs is) → List (𝓢 .R .D) → List (𝓢 .R .D)) → Prog m (suc i) b → Prog m i b
     let-list : {m i : ℕ} {b : Bool} (f : Name) (is : List ℕ) → Knowns Vs m is → Vacant Vs m → Here (𝓢 .lends) i → (List (𝓢 .R .D) → Dens (argDs Vs is) → List (𝓢 .R .D) → datumAt Vs m .D → Type 0) → Prog (suc m) (suc i) b → Prog m i b
+    let-asked : {m i : ℕ} {b : Bool} (f : Name) (is : List ℕ) → Knowns Vs m is → Vacant Vs m → Here (𝓢 .lends) i → (a : Ask (ℕ × Dens (argDs Vs is))) → (List (𝓢 .R .D) → Dens (argDs Vs is) → List (𝓢 .R .D) → datumAt Vs m .D → Type 0) → Prog (suc m) (suc i) b → Prog m i b
     let-runs : {m i : ℕ} → Holds rs → (f : Name) (is : List ℕ) → Knowns Vs m is → Vacant Vs m → Both (𝓢 .lends) i
         → (List (𝓢 .R .D) → List ℕ → List ℕ → List ℕ → Dens (argDs Vs is) → List (𝓢 .R .D) → List ℕ → datumAt Vs m .D → Type 0) → Prog (suc m) (suc i) false → Prog m i true
 
@@ -252,6 +253,7 @@ module _ (𝓢 : Shape) (rs : Bool) (Vs : List Datum) where
       seq (assign (place (tmp 0) []) (rvOpd (copy (place 1 (field 1 ∷ []))))) (seq (call f (copy (place (tmp 0) []) ∷ argCopies (first rs) is) (place (numbered (first rs) m) [])) (compile (suc m) i b p))
   compile m i b (onto h g is ks w a writes p) = lend-list i (seq (call g (copy (place (lent-no (suc (begins (𝓢 .lends) i))) []) ∷ argCopies (first rs) is) (place unit-no [])) (compile m (suc i) b p))
   compile m i b (let-list f is ks v h gives p) = lend-list i (seq (call f (copy (place (lent-no (suc (begins (𝓢 .lends) i))) []) ∷ argCopies (first rs) is) (place (numbered (first rs) m) [])) (compile (suc m) (suc i) b p))
+  compile m i b (let-asked f is ks v h a gives p) = lend-list i (seq (call f (copy (place (lent-no (suc (begins (𝓢 .lends) i))) []) ∷ argCopies (first rs) is) (place (numbered (first rs) m) [])) (compile (suc m) (suc i) b p))
   compile m i b (let-runs h f is ks v w gives p) =
       lend-list i (lend-run i (seq (call f (copy (place (lent-no (suc (begins (𝓢 .lends) i))) []) ∷ copy (place (lent-no (suc (suc (suc (begins (𝓢 .lends) i))))) []) ∷ copy (place 3 []) ∷ copy (place 4 []) ∷ argCopies (first rs) is) (place (numbered (first rs) m) []))
       (compile (suc m) (suc i) false p)))
@@ -264,6 +266,7 @@ module _ (𝓢 : Shape) (rs : Bool) (Vs : List Datum) where
   Chain n ls ns Done m i b (let-len h f is ks v a gives p) d l z = Asked a (n, argVals Vs m d is ks) × ((r : datumAt Vs m .D) → gives n (argVals Vs m d is ks) r → Chain n ls ns Done (suc m) i b p (with-next Vs m d r) l z)
   Chain n ls ns Done m i b (onto h g is ks w a writes p) d l z = a (argVals Vs m d is ks) n × Chain n ls ns Done m (suc i) b p d (writes (argVals Vs m d is ks) l) z
   Chain n ls ns Done m i b (let-list f is ks v h gives p) d l z = (r : datumAt Vs m .D) (l′ : List (𝓢 .R .D)) → gives l (argVals Vs m d is ks) l′ r → Chain n ls ns Done (suc m) (suc i) b p (with-next Vs m d r) l′ z
+  Chain n ls ns Done m i b (let-asked f is ks v h a gives p) d l z = Asked a (n, argVals Vs m d is ks) × ((r : datumAt Vs m .D) (l′ : List (𝓢 .R .D)) → gives l (argVals Vs m d is ks) l′ r → Chain n ls ns Done (suc m) (suc i) b p (with-next Vs m d r) l′ z)
   Chain n ls ns Done m i b (let-runs h f is ks v w gives p) d l z =
       (r : datumAt Vs m .D) (l′ : List (𝓢 .R .D)) (z′ : List ℕ) → gives l z ls ns (argVals Vs m d is ks) l′ z′ r → Chain n ls ns Done (suc m) (suc i) false p (with-next Vs m d r) l′ z′
 
@@ -299,11 +302,11 @@ module _ (𝓢 : Shape) (rs : Bool) (Vs : List Datum) where
     abbrev pub list-ended : List Datum → Datum → Ended
     list-ended Ds D = lend (row (𝓢 .R)) (slots 1 Ds) (plain (λ _. row D)) (kepts 1 Ds)
 
-    abbrev pub list-clauses : (Ds : List Datum) (D : Datum) → (List (𝓢 .R .D) → Dens Ds → List (𝓢 .R .D) → D .D → Type 0) → Clauses 𝓤 (list-ended Ds D)
-    list-clauses Ds D gives κs x = record { ghost = Unit {0}; requires = λ _. emp 𝓤; ensures = λ _ r e. fact 𝓤 (gives (now (x .0)) (up 1 κs Ds (x .1)) (now (e .0)) r) }
+    abbrev pub list-clauses : (Ds : List Datum) (D : Datum) → Ask (ℕ × Dens Ds) → (List (𝓢 .R .D) → Dens Ds → List (𝓢 .R .D) → D .D → Type 0) → Clauses 𝓤 (list-ended Ds D)
+    list-clauses Ds D a gives κs x = record { ghost = Unit {0}; requires = λ _. asked 𝓤 a (length (now (x .0)), up 1 κs Ds (x .1)); ensures = λ _ r e. fact 𝓤 (gives (now (x .0)) (up 1 κs Ds (x .1)) (now (e .0)) r) }
 
-    abbrev pub list-contract : (Ds : List Datum) (D : Datum) → (List (𝓢 .R .D) → Dens Ds → List (𝓢 .R .D) → D .D → Type 0) → Contract 𝓤
-    list-contract Ds D gives = tripleOf 𝓤 H A (list-ended Ds D .signature) (closing 𝓤 H A (list-ended Ds D) (list-clauses Ds D gives))
+    abbrev pub list-contract : (Ds : List Datum) (D : Datum) → Ask (ℕ × Dens Ds) → (List (𝓢 .R .D) → Dens Ds → List (𝓢 .R .D) → D .D → Type 0) → Contract 𝓤
+    list-contract Ds D a gives = tripleOf 𝓤 H A (list-ended Ds D .signature) (closing 𝓤 H A (list-ended Ds D) (list-clauses Ds D a gives))
 
     abbrev pub runs-ended : List Datum → Datum → Ended
     runs-ended Ds D = mend (row (𝓢 .R)) (UInt (𝓢 .N)) (UInt (𝓢 .N′)) (UInt (𝓢 .N″)) (slots 4 Ds) (plain (λ _. row D)) (kepts 4 Ds)
@@ -321,7 +324,8 @@ module _ (𝓢 : Shape) (rs : Bool) (Vs : List Datum) where
     Meeting 𝓣 m i b (let-be f is ks v a gives p) = Triple 𝓤 (𝓣 .C f) (plain-contract (argDs Vs is) (datumAt Vs m) a gives) × Meeting 𝓣 (suc m) i b p
     Meeting 𝓣 m i b (let-len h f is ks v a gives p) = Triple 𝓤 (𝓣 .C f) (len-contract (argDs Vs is) (datumAt Vs m) a gives) × Meeting 𝓣 (suc m) i b p
     Meeting 𝓣 m i b (onto h g is ks w a writes p) = Triple 𝓤 (𝓣 .C g) (onto-contract (argDs Vs is) a writes) × Meeting 𝓣 m (suc i) b p
-    Meeting 𝓣 m i b (let-list f is ks v h gives p) = Triple 𝓤 (𝓣 .C f) (list-contract (argDs Vs is) (datumAt Vs m) gives) × Meeting 𝓣 (suc m) (suc i) b p
+    Meeting 𝓣 m i b (let-list f is ks v h gives p) = Triple 𝓤 (𝓣 .C f) (list-contract (argDs Vs is) (datumAt Vs m) free gives) × Meeting 𝓣 (suc m) (suc i) b p
+    Meeting 𝓣 m i b (let-asked f is ks v h a gives p) = Triple 𝓤 (𝓣 .C f) (list-contract (argDs Vs is) (datumAt Vs m) a gives) × Meeting 𝓣 (suc m) (suc i) b p
     Meeting 𝓣 m i b (let-runs h f is ks v w gives p) = Triple 𝓤 (𝓣 .C f) (runs-contract (argDs Vs is) (datumAt Vs m) gives) × Meeting 𝓣 (suc m) (suc i) false p
 
   -- ---- the walk
@@ -489,11 +493,11 @@ module _ (𝓢 : Shape) (rs : Bool) (Vs : List Datum) where
         use2 W (‵ (spare R (𝓢 .N) (𝓢 .lends) ps)) (pair-back R (𝓢 .N) W (𝓢 .lends) ps i h) $ move t (7 ∷ 8 ∷ []) $ use2 W (‵ (mayItem (𝓢 .unit) tyUnit u)) (may-back W (𝓢 .unit) tyUnit u un) $ move t (2 ∷ 3 ∷ 4 ∷ 5 ∷ 6 ∷ 1 ∷ 7 ∷ 0 ∷ []) $
         k (ap length (sym e) ∙ long ∙ same))))
 
-    does-list : {K : Type 0} → K → (m i : ℕ) (f : Name) (is : List ℕ) (ks : Knowns Vs m is) (vac : Vacant Vs m) (h : Here (𝓢 .lends) i) (gives : List (𝓢 .R .D) → Dens (argDs Vs is) → List (𝓢 .R .D) → datumAt Vs m .D → Type 0) (rest : Body) (d : Pre Vs m) (l : List (𝓢 .R .D)) (left : Bool) (z : List ℕ)
-        → length l ≡ length ys → Sound Vs m d → Triple 𝓤 (𝓣 .C f) (list-contract 𝓤 H A (argDs Vs is) (datumAt Vs m) gives)
+    does-list : {K : Type 0} → K → (m i : ℕ) (f : Name) (is : List ℕ) (ks : Knowns Vs m is) (vac : Vacant Vs m) (h : Here (𝓢 .lends) i) (a : Ask (ℕ × Dens (argDs Vs is))) (gives : List (𝓢 .R .D) → Dens (argDs Vs is) → List (𝓢 .R .D) → datumAt Vs m .D → Type 0) (rest : Body) (d : Pre Vs m) (l : List (𝓢 .R .D)) (left : Bool) (z : List ℕ)
+        → length l ≡ length ys → Sound Vs m d → Triple 𝓤 (𝓣 .C f) (list-contract 𝓤 H A (argDs Vs is) (datumAt Vs m) a gives) → Asked a (length ys, argVals Vs m d is ks)
         → ((r : datumAt Vs m .D) (l′ : List (𝓢 .R .D)) → length l′ ≡ length ys → gives l (argVals Vs m d is ks) l′ r → Sound Vs (suc m) (with-next Vs m d r) → Seq K W (items l′ (suc m) (with-next Vs m d r) left z) (runs (𝓣 .C) (𝓣 .Λ) E rest (atRet E Post)))
         → Seq K W (items l m d left z) (runs (𝓣 .C) (𝓣 .Λ) E (lend-list i (seq (call f (copy (place (lent-no (suc (begins (𝓢 .lends) i))) []) ∷ argCopies (first rs) is) (place (numbered (first rs) m) [])) rest)) (atRet E Post))
-    does-list t m i f is ks vac h gives rest d l left z same sd met k =
+    does-list t m i f is ks vac h a gives rest d l left z same sd met may k =
         let Ds : List Datum = argDs Vs is in
         let av : Dens (argDs Vs is) = argVals Vs m d is ks in
         move t (5 ∷ []) $ use1 W (‵ (listPair R (𝓢 .N) (𝓢 .lends) ps i) ⊛ ‵ (without R (𝓢 .N) (𝓢 .lends) ps i)) (pair-out R (𝓢 .N) W (𝓢 .lends) ps i h) $ split t $ fsplit t $ fsplit t $ move t (2 ∷ []) $ fsplit t $
@@ -506,8 +510,9 @@ module _ (𝓢 : Shape) (rs : Bool) (Vs : List Datum) where
         use1 W (later (some (λ (δ : GName). ‵ (MutSlice (named 0) (ν ∷ []) (row R) .own (record { ptr = (b, o); name = δ; now = l }) (sliceVal (b, o) (length l) ∷ [])) ⊛ ‵ (flent (ν ∷ []) (Held (row R) (length l) b o δ)))))
         (lends-slice 𝓤 H A W (row R) (named 0) (ν ∷ []) l b o (subst (Room (row R)) (sym same) room)) $ await t tt $ pick t (λ δ. split t $ move t (2 ∷ 0 ∷ []) $
         let κs : Lfts 1 = (ν ∷ [], tt) in
-        calls-list t (fmOf 𝓤 H (W .laws) 𝓣) (row R) (slots 1 Ds) (plain (λ _. row (datumAt Vs m))) (kepts 1 Ds) (list-clauses 𝓤 H A Ds (datumAt Vs m) gives) met (ν ∷ []) fullShare
-        (makess 1 κs 𝓤 H A W Ds) (record { ptr = (b, o); name = δ; now = l }) (sliceVal (b, o) (length l)) (down 1 κs Ds av) (vdown 1 κs Ds av) (are-down 1 κs Ds av (arg-facts Vs m d is ks sd)) tt (id⊢ 𝓤 (emp 𝓤))
+        calls-list t (fmOf 𝓤 H (W .laws) 𝓣) (row R) (slots 1 Ds) (plain (λ _. row (datumAt Vs m))) (kepts 1 Ds) (list-clauses 𝓤 H A Ds (datumAt Vs m) a gives) met (ν ∷ []) fullShare
+        (makess 1 κs 𝓤 H A W Ds) (record { ptr = (b, o); name = δ; now = l }) (sliceVal (b, o) (length l)) (down 1 κs Ds av) (vdown 1 κs Ds av) (are-down 1 κs Ds av (arg-facts Vs m d is ks sd)) tt
+        (given-it 𝓤 a _ (subst (λ (x : Dens Ds). Asked a (length l, x)) (sym (up-down 1 κs Ds av)) (subst (λ (n : ℕ). Asked a (n, av)) (sym same) may)))
         (λ r zs. gives l av zs r) (λ r ws. subst (λ (x : Dens Ds). ent 𝓤 (fact 𝓤 (gives l x (ws .0) r)) (fact 𝓤 (gives l av (ws .0) r))) (sym (up-down 1 κs Ds av)) (id⊢ 𝓤 _))
         (recast (ap (λ (vs : List Val). sliceVal (b, o) (length l) ∷ vs) (sym (flat-down 1 κs Ds av))) (and-then t (load t (from-at t (at-lent i h) (stop t)) (look t 2 refl)) (opds-held t 10 (first rs) Vs bs m d is ks refl spots))) (λ r v zs is-r long e.
         lft-end t tt $ move t (0 ∷ 2 ∷ 1 ∷ []) $ use3 W (later (‵ (Arr (mem (row R)) (length l) .lies zs b o))) (slice-back 𝓤 H A W (row R) (ν ∷ []) δ zs (length l) b o) $ await t tt $ fsplit t $ drop t $
@@ -579,7 +584,9 @@ module _ (𝓢 : Shape) (rs : Bool) (Vs : List Datum) where
     goes-on t m i left (onto un g is ks h a writes p) d l z same same′ whole sd met ch =
         does-onto t m i un g is ks h a writes (compile m (suc i) left p) d l left z same sd (met .0) (ch .0) (λ same″. goes-on t m (suc i) left p d (writes (argVals Vs m d is ks) l) z same″ same′ whole sd (met .1) (ch .1))
     goes-on t m i left (let-list f is ks vac h gives p) d l z same same′ whole sd met ch =
-        does-list t m i f is ks vac h gives (compile (suc m) (suc i) left p) d l left z same sd (met .0) (λ r l′ same″ e sd′. goes-on t (suc m) (suc i) left p (with-next Vs m d r) l′ z same″ same′ whole sd′ (met .1) (ch r l′ e))
+        does-list t m i f is ks vac h free gives (compile (suc m) (suc i) left p) d l left z same sd (met .0) tt (λ r l′ same″ e sd′. goes-on t (suc m) (suc i) left p (with-next Vs m d r) l′ z same″ same′ whole sd′ (met .1) (ch r l′ e))
+    goes-on t m i left (let-asked f is ks vac h a gives p) d l z same same′ whole sd met ch =
+        does-list t m i f is ks vac h a gives (compile (suc m) (suc i) left p) d l left z same sd (met .0) (ch .0) (λ r l′ same″ e sd′. goes-on t (suc m) (suc i) left p (with-next Vs m d r) l′ z same″ same′ whole sd′ (met .1) (ch .1 r l′ e))
     goes-on t m i left (let-runs on f is ks vac two gives p) d l z same same′ whole sd met ch =
         does-runs t m i on f is ks vac two gives (compile (suc m) (suc i) false p) d l z same sd (met .0) (λ r l′ z′ same″ long e sd′.
         goes-on t (suc m) (suc i) false p (with-next Vs m d r) l′ z′ same″ long (λ no. absurd no) sd′ (met .1) (ch r l′ z′ (subst (λ (y : List ℕ). gives l y (x .load .now) (x .set .now) (argVals Vs m d is ks) l′ z′ r) (sym (whole tt)) e)))
@@ -595,7 +602,8 @@ module _ (𝓢 : Shape) (rs : Bool) (Vs : List Datum) {M : Type 1} (𝓤 : URA M
   Cites m i b (let-be f is ks v a gives p) = Cited f (plain-contract 𝓢 rs Vs 𝓤 H (𝓖 .A) (argDs Vs is) (datumAt Vs m) a gives) × Cites (suc m) i b p
   Cites m i b (let-len h f is ks v a gives p) = Cited f (len-contract 𝓢 rs Vs 𝓤 H (𝓖 .A) (argDs Vs is) (datumAt Vs m) a gives) × Cites (suc m) i b p
   Cites m i b (onto h g is ks w a writes p) = Cited g (onto-contract 𝓢 rs Vs 𝓤 H (𝓖 .A) (argDs Vs is) a writes) × Cites m (suc i) b p
-  Cites m i b (let-list f is ks v h gives p) = Cited f (list-contract 𝓢 rs Vs 𝓤 H (𝓖 .A) (argDs Vs is) (datumAt Vs m) gives) × Cites (suc m) (suc i) b p
+  Cites m i b (let-list f is ks v h gives p) = Cited f (list-contract 𝓢 rs Vs 𝓤 H (𝓖 .A) (argDs Vs is) (datumAt Vs m) free gives) × Cites (suc m) (suc i) b p
+  Cites m i b (let-asked f is ks v h a gives p) = Cited f (list-contract 𝓢 rs Vs 𝓤 H (𝓖 .A) (argDs Vs is) (datumAt Vs m) a gives) × Cites (suc m) (suc i) b p
   Cites m i b (let-runs h f is ks v w gives p) = Cited f (runs-contract 𝓢 rs Vs 𝓤 H (𝓖 .A) (argDs Vs is) (datumAt Vs m) gives) × Cites (suc m) (suc i) false p
 
   pub meeting : (m i : ℕ) (b : Bool) (p : Prog 𝓢 rs Vs m i b) → Cites m i b p → Meeting 𝓢 rs Vs 𝓤 H (𝓖 .A) (tablesOf 𝓤 H 𝓜 (tables 𝓤 H 𝓜 𝓡 γ)) m i b p
@@ -606,4 +614,5 @@ module _ (𝓢 : Shape) (rs : Bool) (Vs : List Datum) {M : Type 1} (𝓤 : URA M
   meeting m i b (let-len h f is ks v a gives p) k = (cited 𝓤 H _ 𝓜 𝓡 γ f (k .0 .0) (k .0 .1 .0) (k .0 .1 .1), meeting (suc m) i b p (k .1))
   meeting m i b (onto h g is ks w a writes p) k = (cited 𝓤 H _ 𝓜 𝓡 γ g (k .0 .0) (k .0 .1 .0) (k .0 .1 .1), meeting m (suc i) b p (k .1))
   meeting m i b (let-list f is ks v h gives p) k = (cited 𝓤 H _ 𝓜 𝓡 γ f (k .0 .0) (k .0 .1 .0) (k .0 .1 .1), meeting (suc m) (suc i) b p (k .1))
+  meeting m i b (let-asked f is ks v h a gives p) k = (cited 𝓤 H _ 𝓜 𝓡 γ f (k .0 .0) (k .0 .1 .0) (k .0 .1 .1), meeting (suc m) (suc i) b p (k .1))
   meeting m i b (let-runs h f is ks v w gives p) k = (cited 𝓤 H _ 𝓜 𝓡 γ f (k .0 .0) (k .0 .1 .0) (k .0 .1 .1), meeting (suc m) (suc i) false p (k .1))

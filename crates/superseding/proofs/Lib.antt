@@ -1,0 +1,12 @@
+pub mod Beside
+pub mod ByName
+pub mod Sights
+pub mod Once
+pub mod Marks
+pub mod Exact
+pub mod Ranges
+pub mod Blanks
+pub mod Treating
+pub mod Promises
+pub mod Examples
+pub mod Data
