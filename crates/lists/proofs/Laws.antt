@@ -20,7 +20,9 @@ use Rattle.records.specs.declared.command.OptionU32.the-variants.{None, Some}
 use Rattle.machine.specs.View.{BufferRange}
 use Rattle.machine.specs.Machine.{Gl, between}
 use Rattle.lists.specs.Shots.{settingsAfter, settings}
-use Rattle.lists.specs.Things.{attribute, vertex-buffer, buffer, texture, image, sampler, index-buffer, viewport, scissor, blend-constants, program, primitive, depth-bias, alpha-to-coverage, depth-stencil, depth, target, clip-distance, front-function, back-function, front-operations, back-operations, Thing, vertex, binding, screen, fixed, face, Same, onFront, onBack, names, named}
+use Rattle.lists.specs.Things.{attribute, vertex-buffer, buffer, texture, image, sampler, index-buffer, viewport, scissor, blend-constants, program}
+use Rattle.lists.specs.Things.{primitive, depth-bias, alpha-to-coverage, depth-stencil, depth, target, clip-distance, front-function, back-function, front-operations, back-operations}
+use Rattle.lists.specs.Things.{Thing, vertex, binding, screen, fixed, face, Same, onFront, onBack, names, named}
 
 pick : {A : Type 0} (a x y : A) (t : Bool) → (t ≡ false → x ≡ y) → cond t a x ≡ cond t a y
 pick a x y true k = refl

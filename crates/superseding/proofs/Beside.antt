@@ -25,9 +25,12 @@ use Rattle.machine.specs.Machine.{Vertices, Bindings, Screen, Fixed, Faces, Gl}
 use Rattle.machine.proofs.Lists.{true-false, false-true, and-left, and-right}
 use Rattle.lists.specs.Class.{classOf}
 use Rattle.lists.specs.Shots.{settingsAfter}
-use Rattle.lists.specs.Things.{VertexThing, attribute, vertex-buffer, BindingThing, buffer, texture, image, sampler, index-buffer, ScreenThing, viewport, scissor, blend-constants, FixedThing, program, primitive, depth-bias, alpha-to-coverage, depth-stencil, depth, target, clip-distance}
-use Rattle.lists.specs.Things.{FaceThing, front-function, back-function, front-operations, back-operations, Thing, vertex, binding, screen, fixed, face, Same, SameVertex, SameBinding, SameScreen, SameFixed, SameFace, sameVertex, sameBinding, sameFixed}
-use Rattle.lists.specs.Things.{bindingKind, bindingPlace, bindingTarget, screenKind, fixedKind, fixedPlace, faceKind, isVertex, isBinding, isScreen, isFixed, isFace, isTarget, isClip, onFront, onBack, names}
+use Rattle.lists.specs.Things.{VertexThing, attribute, vertex-buffer, BindingThing, buffer, texture, image, sampler, index-buffer, ScreenThing, viewport}
+use Rattle.lists.specs.Things.{scissor, blend-constants, FixedThing, program, primitive, depth-bias, alpha-to-coverage, depth-stencil, depth, target, clip-distance}
+use Rattle.lists.specs.Things.{FaceThing, front-function, back-function, front-operations, back-operations, Thing, vertex, binding, screen, fixed}
+use Rattle.lists.specs.Things.{face, Same, SameVertex, SameBinding, SameScreen, SameFixed, SameFace, sameVertex, sameBinding, sameFixed}
+use Rattle.lists.specs.Things.{bindingKind, bindingPlace, bindingTarget, screenKind, fixedKind, fixedPlace, faceKind, isVertex, isBinding}
+use Rattle.lists.specs.Things.{isScreen, isFixed, isFace, isTarget, isClip, onFront, onBack, names}
 use Rattle.superseding.specs.Superseded.{settingOf}
 
 -- ---- y names the same thing as x

@@ -69,7 +69,8 @@ replaces x (d ∷ between) later after u e =
 -- ---- the definition says what the request says
 pub superseded-so : (c : Command) (cs : List Command) → Superseded c cs → superseded c cs ≡ true
 superseded-so c cs S =
-    ap (λ (o : Option Thing). replacedSetting o cs) (sym (setting-is c) ∙ S .sets) ∙ ap (replaced (S .thing)) (S .follow) ∙ replaces (S .thing) (S .between) (S .later) (S .after) (S .unended) (S .again)
+    ap (λ (o : Option Thing). replacedSetting o cs) (sym (setting-is c) ∙ S .sets)
+    ∙ ap (replaced (S .thing)) (S .follow) ∙ replaces (S .thing) (S .between) (S .later) (S .after) (S .unended) (S .again)
 
 pub so-superseded : (c : Command) (cs : List Command) → superseded c cs ≡ true → Superseded c cs
 so-superseded c cs q = go (settingOf (classOf c)) refl (fact c) q

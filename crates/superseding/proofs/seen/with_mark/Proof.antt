@@ -30,13 +30,22 @@ enum-told : tie.Need-enum-told
 enum-told c = search needs
 
 returns : tie.Need-returns
-returns c = let z : Seen = c .before .before .before .before .args .seen in ap (λ (m : ℕ). record { buffers = m; samplers = z .samplers; singles = z .singles }) (c .set .ensures) ∙ ap (withMark z) (sym (c .before .before .mark .given .1))
+returns c =
+    let z : Seen = c .before .before .before .before .args .seen in
+    ap (λ (m : ℕ). record { buffers = m; samplers = z .samplers; singles = z .singles }) (c .set .ensures)
+    ∙ ap (withMark z) (sym (c .before .before .mark .given .1))
 
 returns-2 : tie.Need-returns-2
-returns-2 c = let z : Seen = c .before .before .before .before .args .seen in ap (λ (m : ℕ). record { buffers = z .buffers; samplers = m; singles = z .singles }) (c .set2 .ensures) ∙ ap (withMark z) (sym (c .before .before .mark2 .given .1))
+returns-2 c =
+    let z : Seen = c .before .before .before .before .args .seen in
+    ap (λ (m : ℕ). record { buffers = z .buffers; samplers = m; singles = z .singles }) (c .set2 .ensures)
+    ∙ ap (withMark z) (sym (c .before .before .mark2 .given .1))
 
 returns-3 : tie.Need-returns-3
-returns-3 c = let z : Seen = c .before .before .before .before .args .seen in ap (λ (m : ℕ). record { buffers = z .buffers; samplers = z .samplers; singles = m }) (c .set3 .ensures) ∙ ap (withMark z) (sym (c .before .before .mark3 .given .1))
+returns-3 c =
+    let z : Seen = c .before .before .before .before .args .seen in
+    ap (λ (m : ℕ). record { buffers = z .buffers; samplers = z .samplers; singles = m }) (c .set3 .ensures)
+    ∙ ap (withMark z) (sym (c .before .before .mark3 .given .1))
 
 returns-4 : tie.Need-returns-4
 returns-4 c = search needs
