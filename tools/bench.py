@@ -9,7 +9,7 @@ import tempfile
 
 HERE = os.path.dirname(os.path.abspath(__file__))
 RUNS = 60
-# The rows of tools/bench/main.rt.txt, by number; `oracle bench` has the same names.
+# The rows of tools/bench/main.rt.txt, by number; `oracle bench` has the same names, and two more for tools/trim.sh.
 NAMES = ["typical", "draw", "draw_instance", "set_vertex_buffer", "set_vertex_buffer+draw", "set_bind_group",
          "set_render_pipeline_same", "set_render_pipeline", "set_immediates", "draw_indexed", "set_viewport", "immediate_1",
          "immediate_16", "immediate_192"]

@@ -13,18 +13,15 @@ HERE = os.path.dirname(os.path.abspath(__file__))
 sys.path[:0] = [os.path.join(HERE, "lists"), os.path.join(HERE, "boards")]
 import edits  # noqa: E402  (tools/boards/edits.py)
 import model  # noqa: E402  (tools/lists/model.py)
+import recordings  # noqa: E402  (tools/lists/recordings.py)
 import times  # noqa: E402  (tools/boards/times.py)
+from recordings import is_call, one_list, room_of, stop, text_of  # noqa: E402
 
 BATCH = 250  # seeds whose pairs are held in memory at a time
 EDITED = 3   # edited pairs of a seed
-FULL = ["4096", "65536", "1024"]
 WANTED = ("equal", "draw 0", "draw above 0", "refused 2", "refused 3", "refused 7", "refused 9")
 CHANGED = ("were equal", "were unequal at a later draw")  # pairs whose answer request 12 changed
 PAIRS = {"the same calls": 5, "the same calls, other flags": 2, "the second without one call": 3, "two sessions": 1}
-
-
-def stop(message):
-    sys.exit(f"boards: {message}")
 
 
 def arguments():
@@ -43,57 +40,10 @@ def arguments():
     return args
 
 
-def build(given, folder):
-    """The program of tools/boards."""
-    if given:
-        if not os.access(given, os.X_OK):
-            stop(f"no program {given}")
-        return os.path.abspath(given)
-    made = os.path.join(folder, "compare_boards")
-    if subprocess.run([os.path.join(HERE, "boards", "build.sh"), made]).returncode:
-        sys.exit(2)
-    return made
-
-
 def sessions(args, folder, first, end):
-    """The sessions of the seeds by the Rust's generator, every other one made as by `gen --even`: header and calls."""
-    both = []
-    for option in ([], ["--even"]):
-        files = [os.path.join(folder, name) for name in ("flat", "out", "index")]
-        words = [args.oracle, "batch", str(first), str(end + 1), "--calls", str(args.calls), *option]
-        if subprocess.run([*words, "--flat", files[0], "--out", files[1], "--index", files[2]], stdout=subprocess.DEVNULL).returncode:
-            stop(f"the oracle failed on the seeds {first} to {end + 1}")
-        lines, made, at = open(files[0]).read().splitlines(), [], 0
-        while at < len(lines):
-            header = lines[at].split()
-            made.append((header, lines[at + 1:at + 1 + int(header[7])]))
-            at += 1 + int(header[7])
-        both.append(made)
+    """The sessions of the seeds and one more, every other one made as by `gen --even`."""
+    both = [recordings.sessions(args.oracle, args.calls, folder, first, end + 1, *option) for option in ([], ["--even"])]
     return [pair[i // 2 % 2] for i, pair in enumerate(zip(*both))]
-
-
-def is_call(line, *codes):
-    return line.split()[1] in codes
-
-
-def one_list(source, calls):
-    """The calls of one list of a session: from the end of the list before it to its own end. It begins once, whatever is refused on another board."""
-    ends = [i + 1 for i, line in enumerate(calls) if line.startswith("0 ") and is_call(line, "1")]
-    parts = [calls[i:k] for i, k in zip([0, *ends], [*ends, len(calls)])]
-    part = source.choice([part for part in parts if any(is_call(line, "0") for line in part)])
-    first = next(i for i, line in enumerate(part) if is_call(line, "0"))
-    return part[:first + 1] + [line for line in part[first + 1:] if not is_call(line, "0")]
-
-
-def text_of(flags, room, calls):
-    return "".join(line + "\n" for line in (" ".join([*flags, *room, str(len(calls))]), *calls))
-
-
-def room_of(source):
-    """Room for all, or little of it."""
-    if source.random() < 0.85:
-        return FULL
-    return [str(source.choice((0, 5, 30, 100, 4096))), str(source.choice((0, 40, 65536))), str(source.choice((0, 2, 1024)))]
 
 
 def less_one(source, calls):
@@ -156,11 +106,7 @@ class Comparison:
 
 
 def kept(seed, kind, text):
-    """The text of a pair, left in a file."""
-    path = os.path.join(tempfile.gettempdir(), f"boards-{seed}.txt")
-    with open(path, "w") as file:
-        file.write(text)
-    return f"the pair: {path}"
+    return f"the pair: {recordings.kept('boards', seed, text)}"
 
 
 def compare(args, folder, comparison):
@@ -184,7 +130,7 @@ def edit(seed, source, plain, lists):
 def main():
     args = arguments()
     with tempfile.TemporaryDirectory() as folder:
-        program = build(args.program, folder)
+        program = recordings.built(args.program, os.path.join(HERE, "boards"), folder)
         if args.times:
             times.table(args.oracle, program, folder)
         if args.end is None:

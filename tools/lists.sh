@@ -12,11 +12,15 @@
 #                       without: `equal`, `draw K` (the first draw that differs, from 0) or `refused N` (9: unequal numbers of draws). One of the two
 #                       may be standard input (-). Each session makes one list, ended or not. Nothing tests how the lists were recorded: each
 #                       session says its own board
-#   --program PATH      the program: target/bin/span_masks, target/bin/list_names if not given (rt check NAME); with compare one that
-#                       tools/boards/build.sh made: if not given it is built, natively and unproved, into a temporary folder
+#   trim A              the list that the session of file A records (-: standard input; it makes one list, ended or not) without each blend constant,
+#                       viewport, scissor, vertex buffer, sampler, index buffer or depth bias setting that a later setting of the same thing supersedes
+#                       (request 7), in the printed form; then `---` and three lines: how many settings went, by kind, and the commands and the settings of
+#                       the seven kinds, before and after; or `refused N`
+#   --program PATH      the program: target/bin/span_masks, target/bin/list_names if not given (rt check NAME); with compare and trim one that
+#                       tools/boards/build.sh or tools/trim/build.sh made: if not given it is built, natively and unproved, into a temporary folder
 #   --script PATH       with names, the program that records: target/bin/script if not given (rt check script)
 # A holds one session, B too. Exit 2: wrong use, or no program. Exit 1: a number that is none, a file that cannot be read, not one session, with compare
-# not one list, or a wrong line, whose number in its file is named. Then nothing is printed but the message, on standard error.
+# and trim not one list, or a wrong line, whose number in its file is named. Then nothing is printed but the message, on standard error.
 set -eu
 here=$(cd "$(dirname "$0")" && pwd -P)
 
@@ -29,6 +33,7 @@ usage() {
     echo "usage: lists.sh span A LOWER UPPER [--program PATH]" >&2
     echo "       lists.sh names A [--program PATH] [--script PATH]" >&2
     echo "       lists.sh compare A B [--program PATH]" >&2
+    echo "       lists.sh trim A [--program PATH]" >&2
     exit 2
 }
 
@@ -141,16 +146,21 @@ check_pair() {
     wrong_line "$1" "$3" "$folder/b" "$between"
 }
 
+# The program of tools/$1: the one that is given, or it is built.
+build_program() {
+    if [ -z "$program" ]; then
+        program=$folder/program
+        "$here/$1/build.sh" "$program" || exit 2
+    fi
+    find_program "$1" "$program"
+}
+
 compare() {
     { [ $# -eq 2 ] && [ -z "$script" ]; } || usage
     { [ "$1" != - ] || [ "$2" != - ]; } || usage
     copy_session "$1" "$folder/a"
     copy_session "$2" "$folder/b"
-    if [ -z "$program" ]; then
-        program=$folder/compare_boards
-        "$here/boards/build.sh" "$program" || exit 2
-    fi
-    find_program compare_boards "$program"
+    build_program boards
     { whole_lines "$folder/a" && echo and && whole_lines "$folder/b" && echo compare; } >"$folder/input"
     "$found" <"$folder/input" >"$folder/answer" || fail "$found failed"
     answer=$(cat "$folder/answer")
@@ -160,6 +170,23 @@ compare() {
         *) fail "$found gives no answer" ;;
     esac
     echo "$answer"
+}
+
+trim() {
+    { [ $# -eq 1 ] && [ -z "$script" ]; } || usage
+    copy_session "$1" "$folder/session"
+    build_program trim
+    { whole_lines "$folder/session" && echo trim; } >"$folder/input"
+    "$found" <"$folder/input" >"$folder/answer" || fail "$found failed"
+    answer=$(sed -n 1p "$folder/answer")
+    case $answer in 'error: line 1: '*) wrong_line "$answer" "$1" "$folder/session" 0 ;; esac
+    one_session "$1" "$folder/session"
+    case $answer in
+        'error: line '*) wrong_line "$answer" "$1" "$folder/session" 0 ;;
+        'left '*) sed 1d "$folder/answer" ;;
+        'refused '*) echo "$answer" ;;
+        *) fail "$found gives no answer" ;;
+    esac
 }
 
 program=
@@ -190,5 +217,6 @@ case $command in
     span) span "$@" ;;
     names) names "$@" ;;
     compare) compare "$@" ;;
+    trim) trim "$@" ;;
     *) usage ;;
 esac

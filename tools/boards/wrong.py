@@ -1,16 +1,13 @@
 #!/usr/bin/env python3
 """wrong.py ORACLE FROM TO [TEXT]: libraries with one fault each, or those whose changed text has TEXT, built natively from a copy of the sources, on
-the pairs of tools/boards.sh FROM TO. A line each: `told by` the number of pairs that tell it, or `NOT TOLD`. Exit 1 if one is not told.
-ORACLE is the Rust's recorder as boards.sh builds it. Two at a time."""
-import concurrent.futures
+the pairs of tools/boards.sh FROM TO. A line each: `told by` the number of pairs that tell it and the first seed that does, or `NOT TOLD`.
+Exit 1 if one is not told. ORACLE is the Rust's recorder as boards.sh builds it. Two at a time."""
 import os
-import re
-import shutil
-import subprocess
 import sys
-import tempfile
 
-ROOT = os.path.dirname(os.path.dirname(os.path.dirname(os.path.abspath(__file__))))
+sys.path.insert(0, os.path.join(os.path.dirname(os.path.dirname(os.path.abspath(__file__))), "native"))
+import faults  # noqa: E402  (tools/native/faults.py)
+
 ALIKE, COMPARE, SETTINGS, LIMITS, CLASS = "boards/src/alike.rt", "boards/src/compare.rt", "boards/src/settings.rt", "lists/src/limits.rt", "lists/src/class.rt"
 # file, the text, which stands there once, and what it becomes
 FAULTS = [
@@ -75,43 +72,10 @@ FAULTS = [
 ]
 
 
-def copy_with(fault, folder):
-    """The sources with the fault, below folder."""
-    for name in ("crates", "tools"):
-        shutil.copytree(os.path.join(ROOT, name), os.path.join(folder, name), ignore=shutil.ignore_patterns("target", "proofs", "upstream"))
-    shutil.copy(os.path.join(ROOT, "crates.txt"), folder)
-    file, old, new = fault
-    path = os.path.join(folder, "crates", file)
-    text = open(path).read()
-    if text.count(old) != 1:
-        sys.exit(f"wrong.py: {file} has {text.count(old)} times: {old}")
-    open(path, "w").write(text.replace(old, new))
-
-
-def tried(fault, oracle, first, end):
-    """The number of pairs that tell the fault, or None, and what the comparison said."""
-    with tempfile.TemporaryDirectory() as folder:
-        copy_with(fault, folder)
-        program = os.path.join(folder, "program")
-        built = subprocess.run([os.path.join(folder, "tools/boards/build.sh"), program], capture_output=True, text=True)
-        if built.returncode:
-            return None, "does not build: " + (built.stderr or built.stdout).strip().splitlines()[-1]
-        words = [sys.executable, os.path.join(ROOT, "tools/boards.py"), oracle, first, end, "--program", program]
-        said = subprocess.run(words, capture_output=True, text=True)
-    differ = re.search(r"differences (\d+)", said.stdout)
-    return (int(differ.group(1)) if differ else None), said.stderr.strip()
-
-
 def main():
     if len(sys.argv) not in (4, 5):
         sys.exit(__doc__)
-    faults, missed = [fault for fault in FAULTS if "".join(sys.argv[4:]) in fault[2]], 0
-    with concurrent.futures.ThreadPoolExecutor(2) as pool:
-        for fault, (told, said) in zip(faults, pool.map(lambda fault: tried(fault, *sys.argv[1:4]), faults)):
-            missed += not told
-            print(f"told by {told}" if told else f"NOT TOLD ({said[:200]})", "|", fault[0], "|", fault[1], "->", fault[2], flush=True)
-    print(f"{len(faults)} faults, {missed} not told")
-    sys.exit(missed > 0)
+    faults.run([fault for fault in FAULTS if "".join(sys.argv[4:]) in fault[2]], "boards", sys.argv[1:4])
 
 
 main()
