@@ -1,4 +1,6 @@
 // Bind groups and immediates.
+#![tactic(auto)]
+
 pub mod grouped;
 pub mod groups;
 pub mod immediates;

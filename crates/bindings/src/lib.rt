@@ -1,5 +1,7 @@
 // Bind groups, samplers and immediates: `set_bind_group`, `rebind_sampler_states` and
 // `set_immediates` of gles/command.rs.
+#![tactic(auto)]
+
 mod entry;
 mod entry_command;
 mod entry_state;

@@ -1,5 +1,7 @@
 // Handed-in states at both sides of each limit, most of which no call hands back, given to
 // `set_vertex_buffer`: one line a state, with document 01's number of what is answered.
+#![tactic(auto)]
+
 use calls::encoding::set_vertex_buffer;
 use calls::parts::{with_bind, with_fixed, with_immediates, with_pass, with_progress, with_vertex};
 use libc::STDOUT_FILENO;

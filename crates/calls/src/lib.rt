@@ -1,4 +1,6 @@
 // What all calls share, and the calls that write no run.
+#![tactic(auto)]
+
 pub mod encoding;
 pub mod judge;
 pub mod parts;

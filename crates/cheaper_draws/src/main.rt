@@ -1,6 +1,7 @@
 // Reads from standard input lines `BUDGET COUNT` with eighteen numbers for each of COUNT pieces (a
 // pipeline, sixteen slot buffers, an index buffer), and prints for each the cheapest order of draws
 // within the budget: `price P floor F order A B C`, or `refused N` (document 02, request 10).
+#![tactic(auto)]
 
 mod answer;
 mod line;

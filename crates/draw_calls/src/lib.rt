@@ -1,4 +1,6 @@
 // The draws.
+#![tactic(auto)]
+
 mod drawing;
 pub mod drawn;
 pub mod draws;

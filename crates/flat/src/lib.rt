@@ -1,5 +1,7 @@
 // The flat form of a session: lines of decimal numbers, as tools/oracle/README.md has it. What a
 // line says is read from left to right into the arguments of a call.
+#![tactic(auto)]
+
 pub mod cursor;
 mod fixed;
 pub mod group;

@@ -1,6 +1,7 @@
 // Reads what `script` prints (tools/oracle/README.md, 'Output grammar') and prints of it the commands
 // that set a pipeline's state or draw, with WebGPU's names in place of GL numbers, the lines between
 // lists and after sessions, and error lines. A number that has no name stays as it is.
+#![tactic(auto)]
 
 mod fault;
 mod kinds;

@@ -1,5 +1,7 @@
 // A u32 as a set of places: bit i says whether place i is in it. No mask has a place of 32 or
 // more. The contracts cite specs/Mask.antt; specs/Laws.antt has the laws of these definitions.
+#![tactic(auto)]
+
 ghost use Rattle.std.specs.Prelude.{◌≡◌, take, get_or};
 ghost use Rattle.std.specs.Int.Bits.{bit_and, bit_or};
 ghost use Rattle.std.specs.Int.Count.{ones};

@@ -2,6 +2,7 @@
 // Then what numbers read back as, for each map that is read back (document 02, request 2).
 // The expected output is the Rust's own (`oracle maps`), and its entries inverted
 // (tools/oracle/tools/mkmaps.py).
+#![tactic(auto)]
 
 mod back;
 

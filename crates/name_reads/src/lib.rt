@@ -1,5 +1,7 @@
 // OpenGL ES's numbers read back as WebGPU's names (document 02, request 2). Each reader searches the
 // constant table of its map, from the last entry to the first. The contracts cite specs/Read.antt.
+#![tactic(auto)]
+
 ghost use Rattle.std.specs.Prelude.{◌≡◌};
 ghost use Rattle.name_reads.specs.Read.{compare_read, compare_number, topology_read, topology_number, front_read, front_number, cull_read, cull_number, stencil_op_read, stencil_op_number};
 ghost use Rattle.name_reads.specs.Read.{factor_read, factor_number, operation_read, operation_number};

@@ -1,5 +1,7 @@
 // OpenGL ES's numbers for WebGPU's names: the maps of gles/conv.rs. Each map is a constant table
 // of GL numbers in WebGPU's order of names. The contracts cite specs/Maps.antt.
+#![tactic(auto)]
+
 ghost use Rattle.std.specs.Prelude.{◌≡◌};
 ghost use Rattle.names.specs.Maps.{compare_func, primitive_topology, front_face_of, cull_face_of, polygon_mode_of, stencil_op, blend_factor, blend_equation, primitive_state, stencil_ops, stencil_side, stencil_state, blend_component, blend_desc};
 

@@ -1,6 +1,8 @@
 // Each row is an `f64` by its bits. The program writes, as eight hex digits each: the `f32` that it
 // rounds to, the `i32` and the `u32` that it truncates to, that `f32` truncated to an `i32`, the
 // `u32` read as an `i32`, that `f32` truncated to a `u32`, and the bits of the `f32` once more, read back from its bits.
+#![tactic(auto)]
+
 use libc::STDOUT_FILENO;
 
 mod rows;

@@ -1,6 +1,8 @@
 // A whole list, recorded by one function over lent runs with the public calls: `begin_encoding`, a
 // render pass with one pipeline, one vertex buffer and one draw, and `end_encoding`. What the order
 // theorem says of the list that it hands back stands in specs/InOrder.antt.
+#![tactic(auto)]
+
 ghost use Rattle.std.specs.Prelude.{◌≡◌};
 ghost use Rattle.one_pass.specs.Script.{pass_of, Records};
 

@@ -1,1 +1,2 @@
 // The order theorem: what is claimed in specs/Claim.antt, and its proof, in proofs/.
+#![tactic(auto)]

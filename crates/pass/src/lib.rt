@@ -1,5 +1,7 @@
 // Pass beginnings and ends: `begin_render_pass`, `end_render_pass`, `begin_compute_pass` and
 // `end_compute_pass` of gles/command.rs. The commands are worked out by count and place.
+#![tactic(auto)]
+
 mod attach;
 pub mod begin;
 mod clear;

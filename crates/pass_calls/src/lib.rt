@@ -1,4 +1,6 @@
 // The beginnings and the ends of passes.
+#![tactic(auto)]
+
 pub mod begins;
 pub mod begun_compute;
 pub mod begun_render;

@@ -1,4 +1,6 @@
 // The pipeline calls: render and compute pipelines, and the stencil reference.
+#![tactic(auto)]
+
 pub mod compute;
 mod moved;
 pub mod piped;

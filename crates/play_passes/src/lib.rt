@@ -1,4 +1,6 @@
 // Passes and transfers of the flat form, played and printed.
+#![tactic(auto)]
+
 pub mod line;
 mod listing;
 mod pass_lines;

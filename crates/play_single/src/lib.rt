@@ -1,4 +1,6 @@
 // Calls of the flat form that record one command at most, played and printed.
+#![tactic(auto)]
+
 mod dispatch_lines;
 mod encoding_lines;
 pub mod line;

@@ -1,4 +1,6 @@
 // What playing a line of the flat form gives, and how it is printed.
+#![tactic(auto)]
+
 pub mod places;
 pub mod print;
 

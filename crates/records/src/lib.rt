@@ -1,4 +1,6 @@
 // The records of the recorder: commands, what the calls are handed, the limits.
+#![tactic(auto)]
+
 pub mod args;
 pub mod binding;
 pub mod check;

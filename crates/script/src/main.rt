@@ -1,5 +1,6 @@
 // Reads sessions in the flat form from standard input, one after another, and prints for each its
 // lists, its state and its answers: the form of tools/oracle/README.md.
+#![tactic(auto)]
 
 mod run;
 

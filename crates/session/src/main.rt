@@ -1,5 +1,7 @@
 // The sample session: tools/session/sample.txt in the flat form, played line by line. It prints the
 // list.
+#![tactic(auto)]
+
 ghost use Rattle.std.specs.Prelude.{◌≤◌, length};
 
 use play::line::play;

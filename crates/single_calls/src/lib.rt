@@ -1,4 +1,6 @@
 // The calls of one command or none: settings, dispatches, queries, texture barriers.
+#![tactic(auto)]
+
 pub mod barriers;
 pub mod dispatches;
 pub mod one;

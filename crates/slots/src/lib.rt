@@ -1,5 +1,7 @@
 // Vertex slots at a draw: `prepare_draw` and `rebind_vertex_data` of gles/command.rs. The commands
 // are worked out by count and place. The contracts cite specs/Prepare.antt.
+#![tactic(auto)]
+
 ghost use Rattle.std.specs.Prelude.{◌≡◌};
 ghost use Rattle.slots.specs.Vertex.{slot_at, step_of};
 ghost use Rattle.slots.specs.Prepare.{working as working_of, moved as moved_of, woken as woken_of, instance_offset, slot_offset, slot_over, attribute_over};

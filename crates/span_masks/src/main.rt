@@ -1,6 +1,7 @@
 // Reads from standard input, again and again, a line `LOWER UPPER` and a session in the flat form
 // (tools/oracle/README.md), and prints for the state that the session leaves which slots a draw
 // rebinds whose first instance lies from LOWER to UPPER: `always M sometimes N`, or `refused N`.
+#![tactic(auto)]
 
 mod answer;
 

@@ -1,5 +1,7 @@
 // Which slots a draw rebinds, where its first instance is known only to lie between two numbers.
 // The contract cites specs/Span.antt.
+#![tactic(auto)]
+
 ghost use Rattle.std.specs.Prelude.{◌≡◌};
 ghost use Rattle.spans.specs.Span.{SpanOf, SmallestOf, span_number, refusal as refusal_of};
 ghost use Rattle.spans.specs.Place.{always_mask, sometimes_mask};

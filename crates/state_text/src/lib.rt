@@ -1,5 +1,7 @@
 // The state as lines of text: the printed form of tools/oracle/README.md. The contracts cite
 // specs/State.antt for the lines, and `Wrote` of the crate text for what is done with them.
+#![tactic(auto)]
+
 ghost use Rattle.std.specs.Prelude.{◌≡◌, ◌+◌, ◌≤◌, length};
 ghost use Rattle.text.specs.Wrote.{laid, pasted, wrote_of};
 ghost use Rattle.state_text.specs.State.{state_line, state_text};

@@ -1,1 +1,2 @@
 // Lists by place: only definitions and laws, in specs/.
+#![tactic(auto)]

@@ -1,5 +1,7 @@
 // A command as a line of text: the printed form of tools/oracle/README.md. The contracts cite
 // specs/Command.antt for the line, and specs/Wrote.antt for what is done with it.
+#![tactic(auto)]
+
 ghost use Rattle.std.specs.Prelude.{◌≡◌, ◌≤◌, length, drop};
 ghost use Rattle.text.specs.Command.{line_of};
 ghost use Rattle.text.specs.Wrote.{pasted, wrote_of};
