@@ -14,7 +14,7 @@ use records::state::{Answer, BindState, Progress, State};
 
 // Where the commands go and how many they are, what the call was handed, how many of the commands
 // are the entries', the bind state after them, and the units whose sampler is set again.
-#[derive(Drop)]
+#[derive(Clone, Copy)]
 pub struct Grouped {
     pub at: usize,
     pub n: usize,
@@ -29,7 +29,7 @@ pub struct Grouped {
 }
 
 // `after` is the bind state that the call leaves.
-#[derive(Drop)]
+#[derive(Clone, Copy)]
 pub struct GroupPlan {
     pub progress: Progress,
     pub after: BindState,

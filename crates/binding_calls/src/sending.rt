@@ -22,7 +22,7 @@ use records::state::{Answer, ImmediateState, Progress, State};
 
 // What a call sends: the descriptors that it sends with the new words, the places of their bytes,
 // how many commands and bytes there are.
-#[derive(Drop)]
+#[derive(Clone, Copy)]
 pub struct Worked {
     pub state: ImmediateState,
     pub placed: Placed,
@@ -31,7 +31,7 @@ pub struct Worked {
 }
 
 // Where the commands and the bytes go, how many they are, and what they are worked out from.
-#[derive(Drop)]
+#[derive(Clone, Copy)]
 pub struct Sending {
     pub at: usize,
     pub n: usize,
@@ -42,7 +42,7 @@ pub struct Sending {
 }
 
 // `words` are those that the call leaves, `sent` the flag.
-#[derive(Drop)]
+#[derive(Clone, Copy)]
 pub struct ImmediatePlan {
     pub progress: Progress,
     pub words: [u32; MAX_IMMEDIATES],

@@ -12,7 +12,7 @@ use records::limits::MAX_IMMEDIATES_COMMANDS;
 use records::state::ImmediateState;
 
 // The place in the marker bytes of each descriptor's bytes, and how many bytes there are.
-#[derive(Drop)]
+#[derive(Clone, Copy)]
 pub struct Placed {
     pub at: [u32; MAX_IMMEDIATES_COMMANDS],
     pub total: u32,

@@ -14,7 +14,7 @@ use records::state::BindState;
 
 // What has been found of the entries gone through: how many commands, how many dynamic offsets are
 // used, the state, the units and samplers named, and conditions 3, 5 and 6.
-#[derive(Drop)]
+#[derive(Clone, Copy)]
 pub struct Sweep {
     pub count: u32,
     pub used: u32,

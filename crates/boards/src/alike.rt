@@ -17,7 +17,7 @@ use records::same::same_option_u32;
 
 // Where an attribute's bytes come from. The first byte is `offset` plus `base`, a sum that may be
 // larger than a `u64`.
-#[derive(Drop)]
+#[derive(Clone, Copy)]
 pub struct Source {
     pub buffer: u32,
     pub stride: u32,
@@ -26,7 +26,7 @@ pub struct Source {
     pub base: u64,
 }
 
-#[derive(Drop)]
+#[derive(Clone, Copy)]
 pub enum OptionSource {
     None,
     Some(Source),

@@ -14,7 +14,7 @@ use records::check::within;
 use records::command::{Command, Record};
 use records::limits::MAX_COMMANDS;
 
-#[derive(Drop)]
+#[derive(Clone, Copy)]
 pub enum Compared {
     // Every draw fetches alike.
     Equal,
@@ -46,14 +46,14 @@ pub fn compared_number(compared: Compared) -> u8
 
 // Two lists side by side: how many commands each has, how many have been played, and the settings
 // after them; how many draws were alike; the answer, and whether it is known.
-#[derive(Drop)]
+#[derive(Clone, Copy)]
 pub struct Side {
     pub count: usize,
     pub at: usize,
     pub settings: Settings,
 }
 
-#[derive(Drop)]
+#[derive(Clone, Copy)]
 pub struct Both {
     pub a: Side,
     pub b: Side,

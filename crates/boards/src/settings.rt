@@ -10,45 +10,45 @@ use records::command::{
 use records::limits::{MAX_VERTEX_ATTRIBUTES, MAX_VERTEX_BUFFERS};
 
 // A vertex attribute as its command sets it.
-#[derive(Drop)]
+#[derive(Clone, Copy)]
 pub struct Attribute {
     pub buffer: OptionU32,
     pub buffer_desc: VertexBufferDesc,
     pub attribute_desc: AttributeDesc,
 }
 
-#[derive(Drop)]
+#[derive(Clone, Copy)]
 pub enum OptionAttribute {
     None,
     Some(Attribute),
 }
 
 // What stands at a location.
-#[derive(Drop)]
+#[derive(Clone, Copy)]
 pub struct Location {
     pub attribute: OptionAttribute,
 }
 
 // A vertex buffer as its command sets it.
-#[derive(Drop)]
+#[derive(Clone, Copy)]
 pub struct VertexBuffer {
     pub buffer: BufferBinding,
     pub buffer_desc: VertexBufferDesc,
 }
 
-#[derive(Drop)]
+#[derive(Clone, Copy)]
 pub enum OptionVertexBuffer {
     None,
     Some(VertexBuffer),
 }
 
 // What stands at a slot.
-#[derive(Drop)]
+#[derive(Clone, Copy)]
 pub struct Slot {
     pub buffer: OptionVertexBuffer,
 }
 
-#[derive(Drop)]
+#[derive(Clone, Copy)]
 pub struct Settings {
     pub locations: [Location; MAX_VERTEX_ATTRIBUTES],
     pub slots: [Slot; MAX_VERTEX_BUFFERS],

@@ -12,7 +12,7 @@ use records::outcome::{Conditions, Outcome, outcome_of};
 use records::state::{Phase, Progress};
 
 // How much a call appends to each run.
-#[derive(Drop)]
+#[derive(Clone, Copy)]
 pub struct Counts {
     pub commands: usize,
     pub bytes: usize,
@@ -88,7 +88,7 @@ fn outcome_for(
     outcome_of(all)
 }
 
-#[derive(Drop)]
+#[derive(Clone, Copy)]
 pub struct Verdict {
     pub outcome: Outcome,
     pub ok: bool,
@@ -190,7 +190,7 @@ pub fn commands_only(n: usize) -> Counts
 }
 
 // Where the commands of a call go, and how many: none of a call that is turned away.
-#[derive(Drop)]
+#[derive(Clone, Copy)]
 pub struct Spot {
     pub at: usize,
     pub n: usize,

@@ -10,7 +10,7 @@ pub const MAX_PIECES: usize = 8;
 const THINGS: usize = 18;
 
 // What a piece is drawn with, each by its number.
-#[derive(Drop)]
+#[derive(Clone, Copy)]
 pub struct Piece {
     pub pipeline: u32,
     pub slots: [u32; 16],

@@ -7,14 +7,14 @@ use flat::cursor::{Cursor, closed, start, take_count, take_u32};
 const MAX_READ: usize = 64;
 
 // The question, and the cursor past the line or what is wrong with it.
-#[derive(Drop)]
+#[derive(Clone, Copy)]
 pub struct Question {
     pub budget: u32,
     pub pieces: Pieces,
     pub next: Cursor,
 }
 
-#[derive(Drop)]
+#[derive(Clone, Copy)]
 struct TakenSlots {
     all: [u32; 16],
     next: Cursor,
@@ -34,7 +34,7 @@ fn take_slots(line: &[u8], c: Cursor) -> TakenSlots {
     TakenSlots { all, next }
 }
 
-#[derive(Drop)]
+#[derive(Clone, Copy)]
 struct TakenPiece {
     value: Piece,
     next: Cursor,
@@ -57,7 +57,7 @@ fn take_piece(line: &[u8], c: Cursor) -> TakenPiece {
 }
 
 // The pieces read so far; those past the array are dropped.
-#[derive(Drop)]
+#[derive(Clone, Copy)]
 struct Kept {
     all: [Piece; MAX_PIECES],
     next: Cursor,

@@ -15,7 +15,7 @@ use sessions::input::{Input, MAX_TURNS, line_number, new_input, next_line, turns
 use sessions::verdict::{played_length, verdict};
 
 // Where the reading stands, how much of the output buffer is used, and whether there is more.
-#[derive(Drop)]
+#[derive(Clone, Copy)]
 struct Place {
     input: Input,
     used: usize,

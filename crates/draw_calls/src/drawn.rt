@@ -16,7 +16,7 @@ use records::state::{Answer, Progress, State, VertexState};
 use slots::command::command_at;
 
 // A draw's own commands: one, or those of an indirect call, by its count.
-#[derive(Drop)]
+#[derive(Clone, Copy)]
 pub enum Own {
     One(Command),
     Indirect {
@@ -38,7 +38,7 @@ pub enum Own {
 
 // Where the commands go and how many they are, what `slots::prepare` works from and gave, and how
 // many of the commands are its.
-#[derive(Drop)]
+#[derive(Clone, Copy)]
 pub struct Drawn {
     pub at: usize,
     pub n: usize,
@@ -52,7 +52,7 @@ pub struct Drawn {
 
 // The progress, the dirty mask and the slots' instances after the call: the old ones where it is
 // refused. Worked out in the plan they keep the call itself small (D75).
-#[derive(Drop)]
+#[derive(Clone, Copy)]
 pub struct DrawPlan {
     pub progress: Progress,
     pub dirty: u32,

@@ -4,7 +4,7 @@ ghost use Rattle.std.specs.Prelude.{◌≤◌, length};
 use numbers::as_i32;
 
 // What was expected where a line is wrong.
-#[derive(Drop)]
+#[derive(Clone, Copy)]
 pub enum Wanted {
     Nothing,
     UpTo(u64),
@@ -14,13 +14,13 @@ pub enum Wanted {
 
 // Where the next number begins: the line's length after the last. Where something was not as
 // expected nothing more is read.
-#[derive(Drop)]
+#[derive(Clone, Copy)]
 pub struct Cursor {
     pub at: usize,
     pub wanted: Wanted,
 }
 
-#[derive(Drop)]
+#[derive(Clone, Copy)]
 pub struct Taken {
     pub value: u64,
     pub next: Cursor,
@@ -80,7 +80,7 @@ fn digits_end(line: &[u8], at: usize) -> usize
 }
 
 // A number that is read digit by digit, and whether it is still one of 64 bits.
-#[derive(Drop)]
+#[derive(Clone, Copy)]
 struct Sum {
     value: u64,
     fits: bool,
@@ -196,7 +196,7 @@ pub fn take(line: &[u8], c: Cursor, most: u64) -> Taken
     }
 }
 
-#[derive(Drop)]
+#[derive(Clone, Copy)]
 pub struct TakenU32 {
     pub value: u32,
     pub next: Cursor,
@@ -211,7 +211,7 @@ pub fn take_u32(line: &[u8], c: Cursor) -> TakenU32 {
     }
 }
 
-#[derive(Drop)]
+#[derive(Clone, Copy)]
 pub struct TakenBool {
     pub value: bool,
     pub next: Cursor,
@@ -227,7 +227,7 @@ pub fn take_bool(line: &[u8], c: Cursor) -> TakenBool {
 }
 
 // A count that is at most `most`.
-#[derive(Drop)]
+#[derive(Clone, Copy)]
 pub struct TakenCount {
     pub value: usize,
     pub next: Cursor,
@@ -244,7 +244,7 @@ pub fn take_count(line: &[u8], c: Cursor, most: usize) -> TakenCount
     }
 }
 
-#[derive(Drop)]
+#[derive(Clone, Copy)]
 pub struct TakenI32 {
     pub value: i32,
     pub next: Cursor,

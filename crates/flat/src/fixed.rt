@@ -15,7 +15,7 @@ fn topology_at(place: u64) -> PrimitiveTopology {
     }
 }
 
-#[derive(Drop)]
+#[derive(Clone, Copy)]
 pub struct TakenTopology {
     pub value: PrimitiveTopology,
     pub next: Cursor,
@@ -51,7 +51,7 @@ fn polygon_at(place: u64) -> PolygonMode {
     }
 }
 
-#[derive(Drop)]
+#[derive(Clone, Copy)]
 pub struct TakenPrimitive {
     pub value: PrimitiveState,
     pub next: Cursor,
@@ -78,7 +78,7 @@ pub(crate) fn take_primitive(line: &[u8], c: Cursor) -> TakenPrimitive {
     TakenPrimitive { value, next }
 }
 
-#[derive(Drop)]
+#[derive(Clone, Copy)]
 pub struct TakenDepthState {
     pub value: OptionDepthState,
     pub next: Cursor,
@@ -107,7 +107,7 @@ pub(crate) fn take_depth_state(line: &[u8], c: Cursor) -> TakenDepthState {
     }
 }
 
-#[derive(Drop)]
+#[derive(Clone, Copy)]
 pub struct TakenBias {
     pub value: DepthBiasState,
     pub next: Cursor,
@@ -129,7 +129,7 @@ pub(crate) fn take_bias(line: &[u8], c: Cursor) -> TakenBias {
     TakenBias { value, next }
 }
 
-#[derive(Drop)]
+#[derive(Clone, Copy)]
 struct TakenOps {
     value: StencilOps,
     next: Cursor,
@@ -150,7 +150,7 @@ fn take_ops(line: &[u8], c: Cursor) -> TakenOps {
     TakenOps { value, next }
 }
 
-#[derive(Drop)]
+#[derive(Clone, Copy)]
 struct TakenSide {
     value: StencilSide,
     next: Cursor,
@@ -178,7 +178,7 @@ fn take_side(line: &[u8], c: Cursor) -> TakenSide {
     TakenSide { value, next }
 }
 
-#[derive(Drop)]
+#[derive(Clone, Copy)]
 pub struct TakenStencil {
     pub value: OptionStencilState,
     pub next: Cursor,

@@ -10,7 +10,7 @@ use records::command::ImageBinding;
 use records::limits::MAX_BINDINGS;
 
 // A resource of the group, past its kind.
-#[derive(Drop)]
+#[derive(Clone, Copy)]
 struct TakenBinding {
     value: RawBinding,
     next: Cursor,
@@ -100,7 +100,7 @@ fn take_binding(line: &[u8], c: Cursor) -> TakenBinding {
 }
 
 // The contents read so far; those past the array are dropped.
-#[derive(Drop)]
+#[derive(Clone, Copy)]
 struct Contents {
     all: [Content; MAX_BINDINGS],
     next: Cursor,
@@ -120,7 +120,7 @@ fn add_content(line: &[u8], contents: Contents, i: usize) -> Contents {
     Contents { all, next }
 }
 
-#[derive(Drop)]
+#[derive(Clone, Copy)]
 struct TakenContents {
     value: BindGroup,
     next: Cursor,
@@ -151,7 +151,7 @@ fn take_contents(line: &[u8], c: Cursor) -> TakenContents {
     TakenContents { value, next }
 }
 
-#[derive(Drop)]
+#[derive(Clone, Copy)]
 pub struct TakenBindGroup {
     pub layout: PipelineLayout,
     pub index: u32,
@@ -164,7 +164,7 @@ pub struct TakenBindGroup {
 // The layout is read twice: for its shapes, and for the entries of the group that the index names.
 // The dynamic offsets go into the run.
 pub fn take_bind_group(line: &[u8], c: Cursor, offsets: &mut [u32]) -> TakenBindGroup
-    ensures* { do ⌜ result.count ≤ (← (⟦offsets.len()⟧).entry) ⌝ }
+    ensures { result.count ≤ length offsets.old }
 {
     let shapes = take_layout(line, c);
     let at_index = shapes.next;

@@ -5,7 +5,7 @@ use records::command::{ImmediateDesc, OptionU32};
 use records::limits::{MAX_IMMEDIATES_COMMANDS, MAX_TEXTURE_SLOTS};
 use records::pipeline::{PipelineInner, SamplerBind};
 
-#[derive(Drop)]
+#[derive(Clone, Copy)]
 struct TakenDesc {
     value: ImmediateDesc,
     next: Cursor,
@@ -30,7 +30,7 @@ fn take_desc(line: &[u8], c: Cursor) -> TakenDesc {
 }
 
 // The descriptors read so far; those past the array are dropped.
-#[derive(Drop)]
+#[derive(Clone, Copy)]
 struct Descs {
     all: [ImmediateDesc; MAX_IMMEDIATES_COMMANDS],
     next: Cursor,
@@ -49,7 +49,7 @@ fn add_desc(line: &[u8], descs: Descs, i: usize) -> Descs {
     Descs { all, next }
 }
 
-#[derive(Drop)]
+#[derive(Clone, Copy)]
 struct TakenDescs {
     all: [ImmediateDesc; MAX_IMMEDIATES_COMMANDS],
     count: usize,
@@ -84,7 +84,7 @@ fn take_descs(line: &[u8], c: Cursor) -> TakenDescs {
     }
 }
 
-#[derive(Drop)]
+#[derive(Clone, Copy)]
 struct Samplers {
     map: [SamplerBind; MAX_TEXTURE_SLOTS],
     next: Cursor,
@@ -121,7 +121,7 @@ fn take_samplers(line: &[u8], c: Cursor) -> Samplers {
     samplers
 }
 
-#[derive(Drop)]
+#[derive(Clone, Copy)]
 pub struct TakenInner {
     pub value: PipelineInner,
     pub next: Cursor,

@@ -31,7 +31,7 @@ fn binding_type(place: u64) -> BindingType {
     }
 }
 
-#[derive(Drop)]
+#[derive(Clone, Copy)]
 struct TakenEntry {
     value: BindGroupLayoutEntry,
     next: Cursor,
@@ -54,7 +54,7 @@ fn take_entry(line: &[u8], c: Cursor) -> TakenEntry {
 }
 
 // The entries read so far; those past the array are dropped.
-#[derive(Drop)]
+#[derive(Clone, Copy)]
 struct Entries {
     all: [BindGroupLayoutEntry; MAX_BINDINGS],
     next: Cursor,
@@ -96,7 +96,7 @@ fn take_entries(line: &[u8], c: Cursor, reads: usize) -> Entries {
 }
 
 // A group of the layout, with its entries.
-#[derive(Drop)]
+#[derive(Clone, Copy)]
 struct TakenGroup {
     shape: GroupShape,
     all: [BindGroupLayoutEntry; MAX_BINDINGS],
@@ -133,7 +133,7 @@ fn take_group(line: &[u8], c: Cursor) -> TakenGroup {
 }
 
 // The shapes read so far; those past the array are dropped.
-#[derive(Drop)]
+#[derive(Clone, Copy)]
 struct Shapes {
     all: [GroupShape; MAX_BIND_GROUPS],
     next: Cursor,
@@ -152,7 +152,7 @@ fn add_shape(line: &[u8], shapes: Shapes, i: usize) -> Shapes {
     Shapes { all, next }
 }
 
-#[derive(Drop)]
+#[derive(Clone, Copy)]
 pub struct TakenLayout {
     pub value: PipelineLayout,
     pub next: Cursor,

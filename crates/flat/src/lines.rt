@@ -9,7 +9,7 @@ use records::command::{DepthRange, MemoryRange};
 use records::state::IndexFormat;
 
 // A draw.
-#[derive(Drop)]
+#[derive(Clone, Copy)]
 pub struct DrawLine {
     pub first_vertex: u32,
     pub vertex_count: u32,
@@ -38,7 +38,7 @@ pub fn draw_line(line: &[u8], c: Cursor) -> DrawLine {
 }
 
 // A draw by indices.
-#[derive(Drop)]
+#[derive(Clone, Copy)]
 pub struct DrawIndexedLine {
     pub first_index: u32,
     pub index_count: u32,
@@ -71,7 +71,7 @@ pub fn draw_indexed_line(line: &[u8], c: Cursor) -> DrawIndexedLine {
 }
 
 // Draws whose arguments stand in a buffer.
-#[derive(Drop)]
+#[derive(Clone, Copy)]
 pub struct IndirectLine {
     pub buffer: Buffer,
     pub offset: u64,
@@ -97,7 +97,7 @@ pub fn indirect_line(line: &[u8], c: Cursor) -> IndirectLine {
 }
 
 // A dispatch.
-#[derive(Drop)]
+#[derive(Clone, Copy)]
 pub struct DispatchLine {
     pub x: u32,
     pub y: u32,
@@ -122,7 +122,7 @@ pub fn dispatch_line(line: &[u8], c: Cursor) -> DispatchLine {
 }
 
 // A buffer and a place in it.
-#[derive(Drop)]
+#[derive(Clone, Copy)]
 pub struct PlaceLine {
     pub buffer: Buffer,
     pub offset: u64,
@@ -144,7 +144,7 @@ pub fn place_line(line: &[u8], c: Cursor) -> PlaceLine {
 }
 
 // A range of a buffer.
-#[derive(Drop)]
+#[derive(Clone, Copy)]
 pub struct ClearLine {
     pub buffer: Buffer,
     pub range: MemoryRange,
@@ -167,7 +167,7 @@ pub fn clear_line(line: &[u8], c: Cursor) -> ClearLine {
 }
 
 // An index buffer.
-#[derive(Drop)]
+#[derive(Clone, Copy)]
 pub struct IndexBufferLine {
     pub buffer: Buffer,
     pub offset: u64,
@@ -194,7 +194,7 @@ pub fn index_buffer_line(line: &[u8], c: Cursor) -> IndexBufferLine {
 }
 
 // A vertex buffer and its slot.
-#[derive(Drop)]
+#[derive(Clone, Copy)]
 pub struct VertexBufferLine {
     pub index: u32,
     pub buffer: Buffer,
@@ -220,7 +220,7 @@ pub fn vertex_buffer_line(line: &[u8], c: Cursor) -> VertexBufferLine {
 }
 
 // A viewport.
-#[derive(Drop)]
+#[derive(Clone, Copy)]
 pub struct ViewportLine {
     pub rect: RectF32,
     pub depth: DepthRange,
@@ -239,7 +239,7 @@ pub fn viewport_line(line: &[u8], c: Cursor) -> ViewportLine {
 }
 
 // A query of a set; the set's queries go into the run.
-#[derive(Drop)]
+#[derive(Clone, Copy)]
 pub struct QueryLine {
     pub count: usize,
     pub target: u32,
@@ -262,7 +262,7 @@ pub fn query_line(line: &[u8], c: Cursor, out: &mut [u32]) -> QueryLine {
 }
 
 // A range of a set's queries.
-#[derive(Drop)]
+#[derive(Clone, Copy)]
 pub struct QueriesLine {
     pub count: usize,
     pub target: u32,
@@ -301,7 +301,7 @@ pub fn queries_line(line: &[u8], c: Cursor, out: &mut [u32]) -> QueriesLine {
 }
 
 // A range of a set's queries and where their results go; the stride is read and dropped.
-#[derive(Drop)]
+#[derive(Clone, Copy)]
 pub struct ResultsLine {
     pub count: usize,
     pub target: u32,
@@ -335,7 +335,7 @@ pub fn results_line(line: &[u8], c: Cursor, out: &mut [u32]) -> ResultsLine {
 }
 
 // Copies from a buffer to a buffer; the regions go into the run.
-#[derive(Drop)]
+#[derive(Clone, Copy)]
 pub struct CopiesLine {
     pub src: Buffer,
     pub dst: Buffer,
@@ -362,7 +362,7 @@ pub fn copies_line(line: &[u8], c: Cursor, out: &mut [u64]) -> CopiesLine {
 }
 
 // Immediates; their words go into the run.
-#[derive(Drop)]
+#[derive(Clone, Copy)]
 pub struct ImmediatesLine {
     pub offset: u32,
     pub count: usize,

@@ -8,7 +8,7 @@ use crate::small::take_option;
 use records::command::Extent3d;
 use records::pass::{OptionTimestampWrites, RenderPassDescriptor, TimestampWrites};
 
-#[derive(Drop)]
+#[derive(Clone, Copy)]
 pub struct TakenLabel {
     pub present: bool,
     pub count: usize,
@@ -17,7 +17,7 @@ pub struct TakenLabel {
 
 // A label into the run; one of no bytes is present.
 pub(crate) fn take_label(line: &[u8], c: Cursor, out: &mut [u8]) -> TakenLabel
-    ensures* { do ⌜ result.count ≤ (← (⟦out.len()⟧).entry) ⌝ }
+    ensures { result.count ≤ length out.old }
 {
     let some = take_bool(line, c);
     let after = some.next;
@@ -37,7 +37,7 @@ pub(crate) fn take_label(line: &[u8], c: Cursor, out: &mut [u8]) -> TakenLabel
     }
 }
 
-#[derive(Drop)]
+#[derive(Clone, Copy)]
 struct TakenWrites {
     value: TimestampWrites,
     next: Cursor,
@@ -57,7 +57,7 @@ fn take_writes(line: &[u8], c: Cursor) -> TakenWrites {
     TakenWrites { value, next }
 }
 
-#[derive(Drop)]
+#[derive(Clone, Copy)]
 pub struct TakenTimestamps {
     pub writes: OptionTimestampWrites,
     pub count: usize,
@@ -66,7 +66,7 @@ pub struct TakenTimestamps {
 
 // The set's queries go into the run; its target is read and dropped.
 pub(crate) fn take_timestamps(line: &[u8], c: Cursor, set: &mut [u32]) -> TakenTimestamps
-    ensures* { do ⌜ result.count ≤ (← (⟦set.len()⟧).entry) ⌝ }
+    ensures { result.count ≤ length set.old }
 {
     let some = take_bool(line, c);
     let after = some.next;
@@ -89,7 +89,7 @@ pub(crate) fn take_timestamps(line: &[u8], c: Cursor, set: &mut [u32]) -> TakenT
     }
 }
 
-#[derive(Drop)]
+#[derive(Clone, Copy)]
 struct TakenExtent {
     value: Extent3d,
     next: Cursor,
@@ -110,7 +110,7 @@ fn take_extent(line: &[u8], c: Cursor) -> TakenExtent {
     TakenExtent { value, next }
 }
 
-#[derive(Drop)]
+#[derive(Clone, Copy)]
 pub struct TakenRenderPass {
     pub value: RenderPassDescriptor,
     pub has_label: bool,
@@ -125,8 +125,8 @@ pub fn take_render_pass(
     label: &mut [u8],
     set: &mut [u32],
 ) -> TakenRenderPass
-    ensures* label_count_bound { do ⌜ result.label_count ≤ (← (⟦label.len()⟧).entry) ⌝ }
-    ensures* set_count_bound { do ⌜ result.set_count ≤ (← (⟦set.len()⟧).entry) ⌝ }
+    ensures label_count_bound { result.label_count ≤ length label.old }
+    ensures set_count_bound { result.set_count ≤ length set.old }
 {
     let size = take_extent(line, c);
     let at_samples = size.next;
@@ -159,7 +159,7 @@ pub fn take_render_pass(
     }
 }
 
-#[derive(Drop)]
+#[derive(Clone, Copy)]
 pub struct TakenComputePass {
     pub writes: OptionTimestampWrites,
     pub has_label: bool,
@@ -174,8 +174,8 @@ pub fn take_compute_pass(
     label: &mut [u8],
     set: &mut [u32],
 ) -> TakenComputePass
-    ensures* label_count_bound { do ⌜ result.label_count ≤ (← (⟦label.len()⟧).entry) ⌝ }
-    ensures* set_count_bound { do ⌜ result.set_count ≤ (← (⟦set.len()⟧).entry) ⌝ }
+    ensures label_count_bound { result.label_count ≤ length label.old }
+    ensures set_count_bound { result.set_count ≤ length set.old }
 {
     let text = take_label(line, c, label);
     let at_writes = text.next;

@@ -9,7 +9,7 @@ use records::limits::MAX_COLOR_ATTACHMENTS;
 use records::pipeline::{ComputePipeline, OptionDepthState, OptionStencilState, RenderPipeline};
 
 // What stands after the attributes.
-#[derive(Drop)]
+#[derive(Clone, Copy)]
 struct TakenOutput {
     targets: [ColorTargetDesc; MAX_COLOR_ATTACHMENTS],
     target_count: usize,
@@ -46,7 +46,7 @@ fn take_output(line: &[u8], c: Cursor) -> TakenOutput {
     }
 }
 
-#[derive(Drop)]
+#[derive(Clone, Copy)]
 pub struct TakenRenderPipeline {
     pub value: RenderPipeline,
     pub next: Cursor,
@@ -90,7 +90,7 @@ pub fn take_render_pipeline(line: &[u8], c: Cursor) -> TakenRenderPipeline {
     TakenRenderPipeline { value, next }
 }
 
-#[derive(Drop)]
+#[derive(Clone, Copy)]
 pub struct TakenComputePipeline {
     pub value: ComputePipeline,
     pub next: Cursor,

@@ -8,7 +8,7 @@ use records::pass::{
     OptionDepthStencil, OptionView,
 };
 
-#[derive(Drop)]
+#[derive(Clone, Copy)]
 struct TakenClear {
     value: ColorF64,
     next: Cursor,
@@ -32,7 +32,7 @@ fn take_clear(line: &[u8], c: Cursor) -> TakenClear {
     TakenClear { value, next }
 }
 
-#[derive(Drop)]
+#[derive(Clone, Copy)]
 struct TakenResolve {
     value: OptionView,
     next: Cursor,
@@ -56,7 +56,7 @@ fn take_resolve(line: &[u8], c: Cursor) -> TakenResolve {
     }
 }
 
-#[derive(Drop)]
+#[derive(Clone, Copy)]
 struct TakenAttachment {
     value: ColorAttachment,
     next: Cursor,
@@ -87,7 +87,7 @@ fn take_attachment(line: &[u8], c: Cursor) -> TakenAttachment {
     TakenAttachment { value, next }
 }
 
-#[derive(Drop)]
+#[derive(Clone, Copy)]
 struct TakenPlace {
     value: OptionColorAttachment,
     next: Cursor,
@@ -112,7 +112,7 @@ fn take_place(line: &[u8], c: Cursor) -> TakenPlace {
 }
 
 // The places read so far; those past the array are dropped.
-#[derive(Drop)]
+#[derive(Clone, Copy)]
 struct Places {
     all: [ColorPlace; MAX_COLOR_ATTACHMENTS],
     next: Cursor,
@@ -132,7 +132,7 @@ fn add_place(line: &[u8], places: Places, i: usize) -> Places {
     Places { all, next }
 }
 
-#[derive(Drop)]
+#[derive(Clone, Copy)]
 pub struct TakenPlaces {
     pub all: [ColorPlace; MAX_COLOR_ATTACHMENTS],
     pub count: usize,
@@ -164,7 +164,7 @@ pub(crate) fn take_places(line: &[u8], c: Cursor) -> TakenPlaces {
     }
 }
 
-#[derive(Drop)]
+#[derive(Clone, Copy)]
 struct TakenDepth {
     value: DepthStencilAttachment,
     next: Cursor,
@@ -192,7 +192,7 @@ fn take_depth(line: &[u8], c: Cursor) -> TakenDepth {
     TakenDepth { value, next }
 }
 
-#[derive(Drop)]
+#[derive(Clone, Copy)]
 pub struct TakenDepthStencil {
     pub value: OptionDepthStencil,
     pub next: Cursor,

@@ -5,7 +5,7 @@ use crate::cursor::{Cursor, take, take_count, take_u32};
 use crate::small::{take_buffer, take_u16, take_u64};
 
 // How many elements were read, each of as many numbers as the list's elements have.
-#[derive(Drop)]
+#[derive(Clone, Copy)]
 pub struct TakenRun {
     pub count: usize,
     pub next: Cursor,
@@ -45,7 +45,7 @@ pub(crate) fn take_bytes(line: &[u8], c: Cursor, out: &mut [u8]) -> TakenRun
     TakenRun { count: n, next }
 }
 
-#[derive(Drop)]
+#[derive(Clone, Copy)]
 struct TakenBarrier {
     raw: u32,
     from: u32,
@@ -134,7 +134,7 @@ pub fn take_regions(line: &[u8], c: Cursor, out: &mut [u64]) -> TakenRun
     TakenRun { count: n, next }
 }
 
-#[derive(Drop)]
+#[derive(Clone, Copy)]
 pub struct TakenSet {
     pub target: u32,
     pub count: usize,

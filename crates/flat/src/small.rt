@@ -31,7 +31,7 @@ pub fn take_u64(line: &[u8], c: Cursor) -> Taken {
 
 // The count of a list that no run bounds, and how many elements to read: no more than the line has
 // bytes. Each element has a digit, so a larger count still ends wrong.
-#[derive(Drop)]
+#[derive(Clone, Copy)]
 pub struct TakenLength {
     pub count: usize,
     pub reads: usize,
@@ -48,7 +48,7 @@ pub(crate) fn take_length(line: &[u8], c: Cursor) -> TakenLength {
     }
 }
 
-#[derive(Drop)]
+#[derive(Clone, Copy)]
 pub struct TakenOption {
     pub value: OptionU32,
     pub next: Cursor,
@@ -80,7 +80,7 @@ pub(crate) fn take_option_u8(line: &[u8], c: Cursor) -> TakenOption {
     take_option_up_to(line, c, 255)
 }
 
-#[derive(Drop)]
+#[derive(Clone, Copy)]
 pub struct TakenF32 {
     pub value: f32,
     pub next: Cursor,
@@ -95,7 +95,7 @@ pub(crate) fn take_f32(line: &[u8], c: Cursor) -> TakenF32 {
     }
 }
 
-#[derive(Drop)]
+#[derive(Clone, Copy)]
 pub struct TakenF64 {
     pub value: f64,
     pub next: Cursor,
@@ -110,7 +110,7 @@ pub(crate) fn take_f64(line: &[u8], c: Cursor) -> TakenF64 {
     }
 }
 
-#[derive(Drop)]
+#[derive(Clone, Copy)]
 pub struct TakenRange {
     pub value: RangeU32,
     pub next: Cursor,
@@ -128,7 +128,7 @@ pub(crate) fn take_range(line: &[u8], c: Cursor) -> TakenRange {
     TakenRange { value, next }
 }
 
-#[derive(Drop)]
+#[derive(Clone, Copy)]
 pub struct TakenBuffer {
     pub value: Buffer,
     pub next: Cursor,
@@ -149,7 +149,7 @@ pub fn take_buffer(line: &[u8], c: Cursor) -> TakenBuffer {
     TakenBuffer { value, next }
 }
 
-#[derive(Drop)]
+#[derive(Clone, Copy)]
 pub struct TakenRectF32 {
     pub value: RectF32,
     pub next: Cursor,
@@ -173,7 +173,7 @@ pub fn take_rect_f32(line: &[u8], c: Cursor) -> TakenRectF32 {
     TakenRectF32 { value, next }
 }
 
-#[derive(Drop)]
+#[derive(Clone, Copy)]
 pub struct TakenRectU32 {
     pub value: RectU32,
     pub next: Cursor,
@@ -197,7 +197,7 @@ pub fn take_rect_u32(line: &[u8], c: Cursor) -> TakenRectU32 {
     TakenRectU32 { value, next }
 }
 
-#[derive(Drop)]
+#[derive(Clone, Copy)]
 pub struct TakenDepthRange {
     pub value: DepthRange,
     pub next: Cursor,
@@ -215,7 +215,7 @@ pub fn take_depth_range(line: &[u8], c: Cursor) -> TakenDepthRange {
     TakenDepthRange { value, next }
 }
 
-#[derive(Drop)]
+#[derive(Clone, Copy)]
 pub struct TakenColor {
     pub value: ColorF32,
     pub next: Cursor,
@@ -239,7 +239,7 @@ pub fn take_color(line: &[u8], c: Cursor) -> TakenColor {
     TakenColor { value, next }
 }
 
-#[derive(Drop)]
+#[derive(Clone, Copy)]
 pub struct TakenMemoryRange {
     pub value: MemoryRange,
     pub next: Cursor,
@@ -257,7 +257,7 @@ pub fn take_memory_range(line: &[u8], c: Cursor) -> TakenMemoryRange {
     TakenMemoryRange { value, next }
 }
 
-#[derive(Drop)]
+#[derive(Clone, Copy)]
 pub struct TakenIndexFormat {
     pub value: IndexFormat,
     pub next: Cursor,

@@ -5,7 +5,7 @@ use names::gl::{BlendComponent, BlendDesc};
 use records::command::{ColorTargetDesc, OptionBlend};
 use records::limits::MAX_COLOR_ATTACHMENTS;
 
-#[derive(Drop)]
+#[derive(Clone, Copy)]
 struct TakenComponent {
     value: BlendComponent,
     next: Cursor,
@@ -26,7 +26,7 @@ fn take_component(line: &[u8], c: Cursor) -> TakenComponent {
     TakenComponent { value, next }
 }
 
-#[derive(Drop)]
+#[derive(Clone, Copy)]
 struct TakenBlend {
     value: OptionBlend,
     next: Cursor,
@@ -55,7 +55,7 @@ fn take_blend(line: &[u8], c: Cursor) -> TakenBlend {
 }
 
 // The targets read so far; those past the array are dropped.
-#[derive(Drop)]
+#[derive(Clone, Copy)]
 struct Targets {
     all: [ColorTargetDesc; MAX_COLOR_ATTACHMENTS],
     next: Cursor,
@@ -80,7 +80,7 @@ fn add_target(line: &[u8], targets: Targets, i: usize) -> Targets {
     Targets { all, next }
 }
 
-#[derive(Drop)]
+#[derive(Clone, Copy)]
 pub struct TakenTargets {
     pub all: [ColorTargetDesc; MAX_COLOR_ATTACHMENTS],
     pub count: usize,

@@ -14,7 +14,7 @@ fn step_mode(by_instance: bool) -> VertexStepMode {
     VertexStepMode::Vertex
 }
 
-#[derive(Drop)]
+#[derive(Clone, Copy)]
 struct TakenSlot {
     value: OptionVertexBufferDesc,
     next: Cursor,
@@ -45,7 +45,7 @@ fn take_slot(line: &[u8], c: Cursor) -> TakenSlot {
 }
 
 // The slots read so far; those past the array are dropped.
-#[derive(Drop)]
+#[derive(Clone, Copy)]
 struct Slots {
     all: [VertexBufferLayout; MAX_VERTEX_BUFFERS],
     next: Cursor,
@@ -65,7 +65,7 @@ fn add_slot(line: &[u8], slots: Slots, i: usize) -> Slots {
     Slots { all, next }
 }
 
-#[derive(Drop)]
+#[derive(Clone, Copy)]
 struct TakenSlots {
     all: [VertexBufferLayout; MAX_VERTEX_BUFFERS],
     count: usize,
@@ -104,7 +104,7 @@ fn attrib_kind(integer: bool) -> VertexAttribKind {
     VertexAttribKind::Float
 }
 
-#[derive(Drop)]
+#[derive(Clone, Copy)]
 struct TakenFormat {
     value: VertexFormatDesc,
     next: Cursor,
@@ -126,7 +126,7 @@ fn take_format(line: &[u8], c: Cursor) -> TakenFormat {
     TakenFormat { value, next }
 }
 
-#[derive(Drop)]
+#[derive(Clone, Copy)]
 struct TakenAttribute {
     value: AttributeDesc,
     next: Cursor,
@@ -152,7 +152,7 @@ fn take_attribute(line: &[u8], c: Cursor) -> TakenAttribute {
 }
 
 // The attributes read so far; those past the array are dropped.
-#[derive(Drop)]
+#[derive(Clone, Copy)]
 struct Attributes {
     all: [AttributeDesc; MAX_VERTEX_ATTRIBUTES],
     next: Cursor,
@@ -171,7 +171,7 @@ fn add_attribute(line: &[u8], attributes: Attributes, i: usize) -> Attributes {
     Attributes { all, next }
 }
 
-#[derive(Drop)]
+#[derive(Clone, Copy)]
 struct TakenAttributes {
     all: [AttributeDesc; MAX_VERTEX_ATTRIBUTES],
     count: usize,
@@ -201,7 +201,7 @@ fn take_attributes(line: &[u8], c: Cursor) -> TakenAttributes {
     }
 }
 
-#[derive(Drop)]
+#[derive(Clone, Copy)]
 pub struct TakenVertex {
     pub buffers: [VertexBufferLayout; MAX_VERTEX_BUFFERS],
     pub buffer_count: usize,

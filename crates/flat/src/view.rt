@@ -3,7 +3,7 @@ use crate::cursor::{Cursor, take, take_bool, take_u32};
 use crate::small::{take_range, take_u8};
 use records::command::{SampleKind, TextureInner, TextureView};
 
-#[derive(Drop)]
+#[derive(Clone, Copy)]
 struct TakenTexture {
     value: TextureInner,
     next: Cursor,
@@ -38,7 +38,7 @@ fn sample_kind(kind: u64) -> SampleKind {
     }
 }
 
-#[derive(Drop)]
+#[derive(Clone, Copy)]
 pub struct TakenView {
     pub value: TextureView,
     pub next: Cursor,

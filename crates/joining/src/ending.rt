@@ -8,7 +8,7 @@ use mask::{clear, set};
 use numbers::bits32;
 use records::command::{ColorF32, Command, DepthBiasState, OptionU32};
 
-#[derive(Drop)]
+#[derive(Clone, Copy)]
 pub struct Ending {
     // The units that have a sampler.
     pub units: u32,

@@ -16,7 +16,7 @@ use records::command::{DepthBiasState, Record};
 use records::same::same_depth_bias;
 
 // The lengths of the runs of numbers, the first's before the second's, and how much is used.
-#[derive(Drop)]
+#[derive(Clone, Copy)]
 pub struct Asked {
     pub bytes: usize,
     pub queries: usize,
@@ -27,14 +27,14 @@ pub struct Asked {
 }
 
 // What is known of the first list: its limits, the five at its end, and the length of its run.
-#[derive(Drop)]
+#[derive(Clone, Copy)]
 pub struct Looked {
     pub surveyed: Surveyed,
     pub ending: Ending,
     pub room: usize,
 }
 
-#[derive(Drop)]
+#[derive(Clone, Copy)]
 pub enum Joining {
     Done,
     // 2
@@ -47,14 +47,14 @@ pub enum Joining {
     NoRoom,
 }
 
-#[derive(Drop)]
+#[derive(Clone, Copy)]
 pub struct Joined {
     pub outcome: Joining,
     pub used: Used,
 }
 
 // What is put in between: where, how many commands, and for which five.
-#[derive(Drop)]
+#[derive(Clone, Copy)]
 pub struct Resets {
     pub at: usize,
     pub n: usize,
@@ -63,7 +63,7 @@ pub struct Resets {
 
 // What is used afterwards, where the second list goes, and how much of it; nothing where the answer
 // is not `Done`.
-#[derive(Drop)]
+#[derive(Clone, Copy)]
 pub struct JoinPlan {
     pub outcome: Joining,
     pub used: Used,

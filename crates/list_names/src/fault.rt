@@ -4,7 +4,7 @@ use crate::words::{Word, first_word, next_word, text};
 use flat::cursor::{is_right, start, take_u32};
 use played::print::{put, put_number};
 
-#[derive(Drop)]
+#[derive(Clone, Copy)]
 pub(crate) enum Expected {
     Nothing,
     Number,
@@ -13,7 +13,7 @@ pub(crate) enum Expected {
 }
 
 // What was expected, and at which place of the line.
-#[derive(Drop)]
+#[derive(Clone, Copy)]
 pub(crate) struct Fault {
     pub at: usize,
     pub expected: Expected,

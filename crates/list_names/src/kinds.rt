@@ -6,7 +6,7 @@ use name_reads::word::Map;
 
 // A line: dropped, printed as it stands, or one of the commands that are shown. `Unblended` is a
 // SetColorTarget whose blend is `-`.
-#[derive(Drop)]
+#[derive(Clone, Copy)]
 pub(crate) enum Kind {
     Dropped,
     Whole,
@@ -23,7 +23,7 @@ pub(crate) enum Kind {
 }
 
 // A field: printed as it stands, or read back.
-#[derive(Drop)]
+#[derive(Clone, Copy)]
 pub(crate) enum Field {
     Kept,
     Read(Map),

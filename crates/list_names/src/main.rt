@@ -14,7 +14,7 @@ use records::check::within;
 use sessions::input::{Input, MAX_TURNS, new_input, next_line, turns_left};
 
 // Where the reading stands, how much of the output buffer is used, and whether there is more.
-#[derive(Drop)]
+#[derive(Clone, Copy)]
 struct Place {
     input: Input,
     used: usize,

@@ -69,7 +69,7 @@ fn put_kind(out: &mut [u8], used: usize, line: &[u8], kind: Kind) -> usize {
 }
 
 // How much of the output buffer is used, and whether the line is right.
-#[derive(Drop)]
+#[derive(Clone, Copy)]
 pub(crate) struct Shown {
     pub used: usize,
     pub right: bool,

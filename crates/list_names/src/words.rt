@@ -3,7 +3,7 @@ use records::check::within;
 
 // A word: its first place in the line, and the place after its last. A missing word is empty and
 // lies at the line's end.
-#[derive(Drop)]
+#[derive(Clone, Copy)]
 pub(crate) struct Word {
     pub start: usize,
     pub end: usize,

@@ -6,7 +6,7 @@ ghost use Rattle.lists.specs.Class.{target_of, class_of, draws};
 use records::command::{Command, OptionU32};
 
 // What a setting command overwrites.
-#[derive(Drop)]
+#[derive(Clone, Copy)]
 pub enum Thing {
     // By location.
     Attribute(u32),
@@ -40,7 +40,7 @@ pub enum Thing {
 }
 
 // What a command is to who looks at a list.
-#[derive(Drop)]
+#[derive(Clone, Copy)]
 pub enum Class {
     Draw,
     // A pass clear.

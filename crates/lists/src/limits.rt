@@ -18,7 +18,7 @@ const COLOR_ATTACHMENT8: u32 = 0x8ce8;
 const COLOR_ATTACHMENT32: u32 = 0x8d00;
 
 // How much of a list's runs is used: commands, marker bytes and queries.
-#[derive(Drop)]
+#[derive(Clone, Copy)]
 pub struct Used {
     pub commands: usize,
     pub bytes: usize,
@@ -26,7 +26,7 @@ pub struct Used {
 }
 
 // The limits that are broken, by document 01's numbers.
-#[derive(Drop)]
+#[derive(Clone, Copy)]
 pub struct Breaks {
     // 2: more places than the limits.
     pub many: bool,
@@ -37,7 +37,7 @@ pub struct Breaks {
 }
 
 // What is known of a list: how much is used of it, which limits it breaks, and its draws.
-#[derive(Drop)]
+#[derive(Clone, Copy)]
 pub struct Surveyed {
     pub used: Used,
     pub breaks: Breaks,

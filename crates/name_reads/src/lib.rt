@@ -23,7 +23,7 @@ use names::{
 };
 
 // `Unknown`: `map_compare_func` never gives the number.
-#[derive(Drop)]
+#[derive(Clone, Copy)]
 pub enum CompareRead {
     Name(CompareFunction),
     Unknown,
@@ -47,7 +47,7 @@ pub fn compare_number(r: CompareRead) -> u8
 }
 
 // `Unknown`: `map_primitive_topology` never gives the number.
-#[derive(Drop)]
+#[derive(Clone, Copy)]
 pub enum TopologyRead {
     Name(PrimitiveTopology),
     Unknown,
@@ -71,7 +71,7 @@ pub fn topology_number(r: TopologyRead) -> u8
 }
 
 // `Unknown`: `map_front_face` never gives the number.
-#[derive(Drop)]
+#[derive(Clone, Copy)]
 pub enum FrontRead {
     Name(FrontFace),
     Unknown,
@@ -95,7 +95,7 @@ pub fn front_number(r: FrontRead) -> u8
 }
 
 // `Unknown`: `map_cull_mode` never gives the number.
-#[derive(Drop)]
+#[derive(Clone, Copy)]
 pub enum CullRead {
     Name(CullMode),
     Unknown,
@@ -119,7 +119,7 @@ pub fn cull_number(r: CullRead) -> u8
 }
 
 // `Unknown`: `map_stencil_op` never gives the number.
-#[derive(Drop)]
+#[derive(Clone, Copy)]
 pub enum StencilOpRead {
     Name(StencilOperation),
     Unknown,
@@ -143,7 +143,7 @@ pub fn stencil_op_number(r: StencilOpRead) -> u8
 }
 
 // `Unknown`: `map_blend_factor` never gives the number.
-#[derive(Drop)]
+#[derive(Clone, Copy)]
 pub enum FactorRead {
     Name(BlendFactor),
     Unknown,
@@ -167,7 +167,7 @@ pub fn factor_number(r: FactorRead) -> u8
 }
 
 // `Unknown`: `map_blend_operation` never gives the number.
-#[derive(Drop)]
+#[derive(Clone, Copy)]
 pub enum OperationRead {
     Name(BlendOperation),
     Unknown,

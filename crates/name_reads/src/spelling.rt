@@ -8,7 +8,7 @@ use names::wgt::{
 };
 
 // A word: the first `length` of the bytes; blanks follow it.
-#[derive(Drop)]
+#[derive(Clone, Copy)]
 pub struct Spelling {
     pub bytes: [u8; 20],
     pub length: usize,

@@ -15,7 +15,7 @@ use crate::{
 };
 
 // The maps that are read back, by their names without `map_`.
-#[derive(Drop)]
+#[derive(Clone, Copy)]
 pub enum Map {
     CompareFunc,
     PrimitiveTopology,

@@ -2,7 +2,7 @@
 ghost use Rattle.std.specs.Prelude.{◌≡◌};
 ghost use Rattle.names.specs.Start.{start_primitive_state, start_stencil_ops, start_stencil_side, start_stencil_state};
 
-#[derive(Drop)]
+#[derive(Clone, Copy)]
 pub struct PrimitiveState {
     pub front_face: u32,
     pub cull_face: u32,
@@ -25,7 +25,7 @@ impl PrimitiveState {
     }
 }
 
-#[derive(Drop)]
+#[derive(Clone, Copy)]
 pub struct StencilOps {
     pub pass: u32,
     pub fail: u32,
@@ -46,7 +46,7 @@ impl StencilOps {
     }
 }
 
-#[derive(Drop)]
+#[derive(Clone, Copy)]
 pub struct StencilSide {
     pub function: u32,
     pub mask_read: u32,
@@ -74,7 +74,7 @@ impl StencilSide {
     }
 }
 
-#[derive(Drop)]
+#[derive(Clone, Copy)]
 pub struct StencilState {
     pub front: StencilSide,
     pub back: StencilSide,
@@ -90,14 +90,14 @@ impl StencilState {
     }
 }
 
-#[derive(Drop)]
+#[derive(Clone, Copy)]
 pub struct BlendComponent {
     pub src: u32,
     pub dst: u32,
     pub equation: u32,
 }
 
-#[derive(Drop)]
+#[derive(Clone, Copy)]
 pub struct BlendDesc {
     pub alpha: BlendComponent,
     pub color: BlendComponent,

@@ -3,7 +3,7 @@
 ghost use Rattle.std.specs.Prelude.{◌≡◌};
 ghost use Rattle.names.specs.Order.{compare_place, topology_place, front_place, cull_place, polygon_place, stencil_op_place, factor_place, operation_place};
 
-#[derive(Drop)]
+#[derive(Clone, Copy)]
 pub enum CompareFunction {
     Never,
     Less,
@@ -30,7 +30,7 @@ pub(crate) fn compare_place(f: CompareFunction) -> usize
     }
 }
 
-#[derive(Drop)]
+#[derive(Clone, Copy)]
 pub enum PrimitiveTopology {
     PointList,
     LineList,
@@ -51,7 +51,7 @@ pub(crate) fn topology_place(t: PrimitiveTopology) -> usize
     }
 }
 
-#[derive(Drop)]
+#[derive(Clone, Copy)]
 pub enum FrontFace {
     Ccw,
     Cw,
@@ -67,7 +67,7 @@ pub(crate) fn front_place(f: FrontFace) -> usize
 }
 
 // GPUCullMode; the Rust has an Option<Face>.
-#[derive(Drop)]
+#[derive(Clone, Copy)]
 pub enum CullMode {
     None,
     Front,
@@ -85,7 +85,7 @@ pub(crate) fn cull_place(m: CullMode) -> usize
 }
 
 // No name of WebGPU's: wgpu-types' own.
-#[derive(Drop)]
+#[derive(Clone, Copy)]
 pub enum PolygonMode {
     Fill,
     Line,
@@ -102,7 +102,7 @@ pub(crate) fn polygon_place(m: PolygonMode) -> usize
     }
 }
 
-#[derive(Drop)]
+#[derive(Clone, Copy)]
 pub enum StencilOperation {
     Keep,
     Zero,
@@ -129,7 +129,7 @@ pub(crate) fn stencil_op_place(o: StencilOperation) -> usize
     }
 }
 
-#[derive(Drop)]
+#[derive(Clone, Copy)]
 pub enum BlendFactor {
     Zero,
     One,
@@ -174,7 +174,7 @@ pub(crate) fn factor_place(f: BlendFactor) -> usize
     }
 }
 
-#[derive(Drop)]
+#[derive(Clone, Copy)]
 pub enum BlendOperation {
     Add,
     Subtract,
@@ -196,7 +196,7 @@ pub(crate) fn operation_place(o: BlendOperation) -> usize
 }
 
 // The four fields of wgpu-types' record that the map reads.
-#[derive(Drop)]
+#[derive(Clone, Copy)]
 pub struct PrimitiveState {
     pub front_face: FrontFace,
     pub cull_mode: CullMode,
@@ -204,7 +204,7 @@ pub struct PrimitiveState {
     pub polygon_mode: PolygonMode,
 }
 
-#[derive(Drop)]
+#[derive(Clone, Copy)]
 pub struct StencilFaceState {
     pub compare: CompareFunction,
     pub fail_op: StencilOperation,
@@ -212,7 +212,7 @@ pub struct StencilFaceState {
     pub pass_op: StencilOperation,
 }
 
-#[derive(Drop)]
+#[derive(Clone, Copy)]
 pub struct StencilState {
     pub front: StencilFaceState,
     pub back: StencilFaceState,
@@ -220,14 +220,14 @@ pub struct StencilState {
     pub write_mask: u32,
 }
 
-#[derive(Drop)]
+#[derive(Clone, Copy)]
 pub struct BlendComponent {
     pub src_factor: BlendFactor,
     pub dst_factor: BlendFactor,
     pub operation: BlendOperation,
 }
 
-#[derive(Drop)]
+#[derive(Clone, Copy)]
 pub struct BlendState {
     pub color: BlendComponent,
     pub alpha: BlendComponent,

@@ -23,7 +23,7 @@ use records::pipeline::PrivateCapabilities;
 
 // The parts of the commands: the beginning's query, the label, the places, and how many commands
 // the parts have.
-#[derive(Drop)]
+#[derive(Clone, Copy)]
 pub struct BeginPlan {
     pub query: OptionU32,
     pub label: bool,

@@ -12,7 +12,7 @@ use records::pipeline::PrivateCapabilities;
 use records::state::{PassState, ResolveDesc};
 
 // The first `count` of `at`.
-#[derive(Drop)]
+#[derive(Clone, Copy)]
 pub struct Resolves {
     pub at: [ResolveDesc; MAX_COLOR_ATTACHMENTS],
     pub count: usize,

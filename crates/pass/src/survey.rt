@@ -12,7 +12,7 @@ use records::pipeline::PrivateCapabilities;
 
 // Which places are filled, record a clear, are invalidated at the end, are an external framebuffer,
 // and clear a depth kind as colour.
-#[derive(Drop)]
+#[derive(Clone, Copy)]
 pub struct PlaceMasks {
     pub filled: u32,
     pub cleared: u32,

@@ -23,7 +23,7 @@ use records::state::{Answer, PassState, Phase, Progress, State};
 
 // Where the commands go and how many they are, the beginning's query, whether there is a label, and
 // where its bytes go and how many they are.
-#[derive(Drop)]
+#[derive(Clone, Copy)]
 pub struct ComputeBegun {
     pub at: usize,
     pub n: usize,
@@ -33,7 +33,7 @@ pub struct ComputeBegun {
     pub size: usize,
 }
 
-#[derive(Drop)]
+#[derive(Clone, Copy)]
 pub struct ComputePlan {
     pub progress: Progress,
     pub pass: PassState,

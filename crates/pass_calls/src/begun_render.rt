@@ -23,7 +23,7 @@ use records::state::{Answer, PassState, Phase, Progress, State};
 
 // Where the commands go and how many they are, what they are worked out from, and where the label's
 // bytes go and how many they are.
-#[derive(Drop)]
+#[derive(Clone, Copy)]
 pub struct RenderBegun {
     pub at: usize,
     pub n: usize,
@@ -34,7 +34,7 @@ pub struct RenderBegun {
     pub size: usize,
 }
 
-#[derive(Drop)]
+#[derive(Clone, Copy)]
 pub struct RenderPlan {
     pub progress: Progress,
     pub pass: PassState,

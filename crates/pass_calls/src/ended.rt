@@ -18,7 +18,7 @@ use records::state::{Answer, FixedState, PassState, Phase, Progress, State, Vert
 
 // Where the commands go and how many they are, which kind of pass ends, and the parts of the state
 // that they are worked out from.
-#[derive(Drop)]
+#[derive(Clone, Copy)]
 pub struct Ended {
     pub at: usize,
     pub n: usize,
@@ -28,7 +28,7 @@ pub struct Ended {
 }
 
 // The progress and the three parts after the call, what is written, and the outcome.
-#[derive(Drop)]
+#[derive(Clone, Copy)]
 pub struct EndPlan {
     pub progress: Progress,
     pub vertex: VertexState,

@@ -12,7 +12,7 @@ use records::state::{PassState, Phase, Progress, State};
 
 // The progress and the pass record after the call, the outcome, where the commands go and how many
 // they are, and the same of the bytes.
-#[derive(Drop)]
+#[derive(Clone, Copy)]
 pub struct Marked {
     pub progress: Progress,
     pub pass: PassState,

@@ -16,7 +16,7 @@ use records::same::{same_depth_bias, same_primitive};
 use records::state::FixedState;
 
 // How many commands each part has, whether the targets are all alike, and how many there are in all.
-#[derive(Drop)]
+#[derive(Clone, Copy)]
 pub struct FixedPlan {
     pub primitive: u32,
     pub bias: u32,

@@ -16,7 +16,7 @@ use records::state::{BindState, FixedState, VertexState};
 
 // How many commands each part has and how many there are in all, the units whose sampler number
 // changes, and the plan of the fixed part.
-#[derive(Drop)]
+#[derive(Clone, Copy)]
 pub struct RenderPlan {
     pub vertex: u32,
     pub changed: u32,

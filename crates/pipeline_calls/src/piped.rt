@@ -17,7 +17,7 @@ use records::state::{Answer, BindState, FixedState, Progress, State, VertexState
 
 // Where the commands go and how many they are, the pipeline, the bindings after the call, the other
 // parts before it, and what `render_plan` gave.
-#[derive(Drop)]
+#[derive(Clone, Copy)]
 pub struct Piped {
     pub at: usize,
     pub n: usize,
@@ -29,7 +29,7 @@ pub struct Piped {
     pub plan: RenderPlan,
 }
 
-#[derive(Drop)]
+#[derive(Clone, Copy)]
 pub struct PipedPlan {
     pub ok: bool,
     pub progress: Progress,

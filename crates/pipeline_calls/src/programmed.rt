@@ -13,7 +13,7 @@ use records::state::{Answer, BindState, DrawState, ImmediateState, Progress, Sta
 
 // Where the commands go and how many they are, the program, the bindings after the call, and the
 // units whose sampler number it changes.
-#[derive(Drop)]
+#[derive(Clone, Copy)]
 pub struct Programmed {
     pub at: usize,
     pub n: usize,
@@ -24,7 +24,7 @@ pub struct Programmed {
 
 // Whether the call is carried through, and the parts that it changes then; the bindings are the
 // batch's.
-#[derive(Drop)]
+#[derive(Clone, Copy)]
 pub struct ProgrammedPlan {
     pub ok: bool,
     pub progress: Progress,

@@ -13,14 +13,14 @@ use records::outcome::Outcome;
 use records::state::{Answer, FixedState, Progress, State};
 
 // Where the commands go and how many they are, and the stencil that they set.
-#[derive(Drop)]
+#[derive(Clone, Copy)]
 pub struct Sides {
     pub at: usize,
     pub n: usize,
     pub stencil: StencilState,
 }
 
-#[derive(Drop)]
+#[derive(Clone, Copy)]
 pub struct SidesPlan {
     pub progress: Progress,
     pub fixed: FixedState,

@@ -17,7 +17,7 @@ pub const MAX_NUMBERS: usize = 65536;
 pub const MAX_REGIONS: usize = 12291;
 
 // The call's answer, the cursor past the line or what is wrong with it, and the output after it.
-#[derive(Drop)]
+#[derive(Clone, Copy)]
 pub struct Played {
     pub answer: Answer,
     pub next: Cursor,

@@ -76,7 +76,7 @@ fn put_numbered(out: &mut [u8], used: usize, number: u64, command: Command) -> u
 }
 
 // How much of the buffer is used, and whether the line between two lists is due.
-#[derive(Drop)]
+#[derive(Clone, Copy)]
 pub struct Output {
     pub used: usize,
     pub divide: bool,

@@ -20,24 +20,24 @@ long f l n e = sym (length-map l f) ∙ e
 
 -- field 4
 pub buffers-long : (s : VertexState) (vs : List Val) → Is (row the-vertex) s vs → length s.buffers ≡ 16
-buffers-long s vs g = long _ s.buffers 16 g.1.1.1.1.1.1.0.1.0.1
+buffers-long s vs g = g.1.1.1.1.1.1.0.1.0.1
 
 -- field 8
 pub attributes-long : (s : VertexState) (vs : List Val) → Is (row the-vertex) s vs → length s.attributes ≡ 16
-attributes-long s vs g = long _ s.attributes 16 g.1.1.1.1.1.1.1.1.1.1.0.1.0.1
+attributes-long s vs g = g.1.1.1.1.1.1.1.1.1.1.0.1.0.1
 
 -- field 0
 pub samplers_long : (s : BindState) (vs : List Val) → Is (row the-bind) s vs → length s.samplers ≡ 16
-samplers_long s vs g = long _ s.samplers 16 g.1.1.0.1.0.1
+samplers_long s vs g = g.1.1.0.1.0.1
 
 -- field 2
 pub units_long : (s : BindState) (vs : List Val) → Is (row the-bind) s vs → length s.texture_slots ≡ 16
-units_long s vs g = long _ s.texture_slots 16 g.1.1.1.1.0.1.0.1
+units_long s vs g = g.1.1.1.1.0.1.0.1
 
 -- field 1
 pub resolves-long : (s : PassState) (vs : List Val) → Is (row the-pass) s vs → length s.resolves ≡ 8
-resolves-long s vs g = long _ s.resolves 8 g.1.1.1.0.1.0.1
+resolves-long s vs g = g.1.1.1.0.1.0.1
 
 -- field 0
 pub descs-long : (s : ImmediateState) (vs : List Val) → Is (row the-immediates) s vs → length s.descs ≡ 192
-descs-long s vs g = long _ s.descs 192 g.1.1.0.1.0.1
+descs-long s vs g = g.1.1.0.1.0.1

@@ -1,13 +1,13 @@
 // Small arguments of the calls: a buffer, and rectangles before they become GL numbers.
 
 // `Buffer`: its number, 0 where it is absent, and its target.
-#[derive(Drop)]
+#[derive(Clone, Copy)]
 pub struct Buffer {
     pub raw: u32,
     pub target: u32,
 }
 
-#[derive(Drop)]
+#[derive(Clone, Copy)]
 pub struct RectF32 {
     pub x: f32,
     pub y: f32,
@@ -15,7 +15,7 @@ pub struct RectF32 {
     pub h: f32,
 }
 
-#[derive(Drop)]
+#[derive(Clone, Copy)]
 pub struct RectU32 {
     pub x: u32,
     pub y: u32,

@@ -3,13 +3,13 @@
 use crate::command::{ImageBinding, RangeU32};
 use crate::limits::{MAX_BIND_GROUPS, MAX_BINDINGS};
 
-#[derive(Drop)]
+#[derive(Clone, Copy)]
 pub enum BufferBindingType {
     Uniform,
     Storage,
 }
 
-#[derive(Drop)]
+#[derive(Clone, Copy)]
 pub enum BindingType {
     Buffer {
         ty: BufferBindingType,
@@ -22,7 +22,7 @@ pub enum BindingType {
 
 // An entry of a group's layout, with what the group's slot table has at its binding number; a slot
 // above 255 stands for a number past the table.
-#[derive(Drop)]
+#[derive(Clone, Copy)]
 pub struct BindGroupLayoutEntry {
     pub binding: u32,
     pub ty: BindingType,
@@ -30,25 +30,25 @@ pub struct BindGroupLayoutEntry {
 }
 
 // A group of the layout: whether it has a record, and how many entries.
-#[derive(Drop)]
+#[derive(Clone, Copy)]
 pub struct GroupShape {
     pub present: bool,
     pub entry_count: usize,
 }
 
-#[derive(Drop)]
+#[derive(Clone, Copy)]
 pub struct PipelineLayout {
     pub groups: [GroupShape; MAX_BIND_GROUPS],
     pub group_count: usize,
 }
 
 // The entries of the group that the call names.
-#[derive(Drop)]
+#[derive(Clone, Copy)]
 pub struct GroupEntries {
     pub entries: [BindGroupLayoutEntry; MAX_BINDINGS],
 }
 
-#[derive(Drop)]
+#[derive(Clone, Copy)]
 pub enum RawBinding {
     Buffer {
         raw: u32,
@@ -65,12 +65,12 @@ pub enum RawBinding {
     Sampler(u32),
 }
 
-#[derive(Drop)]
+#[derive(Clone, Copy)]
 pub struct Content {
     pub binding: RawBinding,
 }
 
-#[derive(Drop)]
+#[derive(Clone, Copy)]
 pub struct BindGroup {
     pub contents: [Content; MAX_BINDINGS],
     pub content_count: usize,

@@ -14,7 +14,7 @@ use crate::state::{
 };
 
 // How many elements the lent runs have. A run that a call is not handed counts as long enough.
-#[derive(Drop)]
+#[derive(Clone, Copy)]
 pub struct Rooms {
     pub commands: usize,
     pub bytes: usize,
@@ -42,7 +42,7 @@ pub fn bad_attribute(a: AttributeDesc) -> bool
 
 // What has been found of the attributes gone through: their locations below 16, whether one is out
 // of range, whether a location stands twice.
-#[derive(Drop)]
+#[derive(Clone, Copy)]
 pub struct AttributeScan {
     pub seen: u32,
     pub bad: bool,
@@ -253,7 +253,7 @@ pub fn over_room(p: Progress, r: Rooms) -> bool
 }
 
 // Which limits a state breaks, the room aside: conditions 2, 3 and 5.
-#[derive(Drop)]
+#[derive(Clone, Copy)]
 pub struct Broken {
     pub many: bool,
     pub range: bool,

@@ -6,32 +6,32 @@ ghost use Rattle.records.specs.Start.{start_attribute, start_depth_bias, start_e
 use names::gl::{BlendDesc, PrimitiveState, StencilOps};
 
 // An optional number: a location, a buffer, a sampler, a query, a layer, a slice or a draw buffer.
-#[derive(Drop)]
+#[derive(Clone, Copy)]
 pub enum OptionU32 {
     None,
     Some(u32),
 }
 
-#[derive(Drop)]
+#[derive(Clone, Copy)]
 pub struct RangeU32 {
     pub start: u32,
     pub end: u32,
 }
 
-#[derive(Drop)]
+#[derive(Clone, Copy)]
 pub struct MemoryRange {
     pub start: u64,
     pub end: u64,
 }
 
-#[derive(Drop)]
+#[derive(Clone, Copy)]
 pub struct BufferCopy {
     pub src_offset: u64,
     pub dst_offset: u64,
     pub size: u64,
 }
 
-#[derive(Drop)]
+#[derive(Clone, Copy)]
 pub struct Extent3d {
     pub width: u32,
     pub height: u32,
@@ -53,7 +53,7 @@ impl Extent3d {
     }
 }
 
-#[derive(Drop)]
+#[derive(Clone, Copy)]
 pub struct RectI32 {
     pub x: i32,
     pub y: i32,
@@ -61,14 +61,14 @@ pub struct RectI32 {
     pub h: i32,
 }
 
-#[derive(Drop)]
+#[derive(Clone, Copy)]
 pub struct DepthRange {
     pub start: f32,
     pub end: f32,
 }
 
 // Four floats: the blend constants.
-#[derive(Drop)]
+#[derive(Clone, Copy)]
 pub struct ColorF32 {
     pub r: f32,
     pub g: f32,
@@ -77,7 +77,7 @@ pub struct ColorF32 {
 }
 
 // A clear colour: four floats and whether the view is sRGB.
-#[derive(Drop)]
+#[derive(Clone, Copy)]
 pub struct ClearColor {
     pub r: f32,
     pub g: f32,
@@ -86,7 +86,7 @@ pub struct ClearColor {
     pub is_srgb: bool,
 }
 
-#[derive(Drop)]
+#[derive(Clone, Copy)]
 pub struct ColorU32 {
     pub r: u32,
     pub g: u32,
@@ -94,7 +94,7 @@ pub struct ColorU32 {
     pub a: u32,
 }
 
-#[derive(Drop)]
+#[derive(Clone, Copy)]
 pub struct ColorI32 {
     pub r: i32,
     pub g: i32,
@@ -102,7 +102,7 @@ pub struct ColorI32 {
     pub a: i32,
 }
 
-#[derive(Drop)]
+#[derive(Clone, Copy)]
 pub enum TextureInner {
     Renderbuffer(u32),
     DefaultRenderbuffer,
@@ -111,7 +111,7 @@ pub enum TextureInner {
 }
 
 // In place of the format: what a sample of it is.
-#[derive(Drop)]
+#[derive(Clone, Copy)]
 pub enum SampleKind {
     Float,
     Uint,
@@ -119,7 +119,7 @@ pub enum SampleKind {
     Depth,
 }
 
-#[derive(Drop)]
+#[derive(Clone, Copy)]
 pub struct TextureView {
     pub inner: TextureInner,
     pub aspects: u32,
@@ -129,38 +129,38 @@ pub struct TextureView {
     pub is_srgb: bool,
 }
 
-#[derive(Drop)]
+#[derive(Clone, Copy)]
 pub enum VertexStepMode {
     Vertex,
     Instance,
 }
 
-#[derive(Drop)]
+#[derive(Clone, Copy)]
 pub struct VertexBufferDesc {
     pub step: VertexStepMode,
     pub stride: u32,
 }
 
-#[derive(Drop)]
+#[derive(Clone, Copy)]
 pub struct BufferBinding {
     pub raw: u32,
     pub offset: u64,
 }
 
-#[derive(Drop)]
+#[derive(Clone, Copy)]
 pub enum VertexAttribKind {
     Float,
     Integer,
 }
 
-#[derive(Drop)]
+#[derive(Clone, Copy)]
 pub struct VertexFormatDesc {
     pub element_count: i32,
     pub element_format: u32,
     pub attrib_kind: VertexAttribKind,
 }
 
-#[derive(Drop)]
+#[derive(Clone, Copy)]
 pub struct AttributeDesc {
     pub location: u32,
     pub offset: u32,
@@ -186,7 +186,7 @@ impl AttributeDesc {
     }
 }
 
-#[derive(Drop)]
+#[derive(Clone, Copy)]
 pub struct ImageBinding {
     pub raw: u32,
     pub mip_level: u32,
@@ -195,7 +195,7 @@ pub struct ImageBinding {
     pub format: u32,
 }
 
-#[derive(Drop)]
+#[derive(Clone, Copy)]
 pub struct ImmediateDesc {
     pub location: u32,
     pub ty: u32,
@@ -203,14 +203,14 @@ pub struct ImmediateDesc {
     pub size_bytes: u32,
 }
 
-#[derive(Drop)]
+#[derive(Clone, Copy)]
 pub struct DepthState {
     pub function: u32,
     pub mask: bool,
 }
 
 // The two floats are held as their bits, so that equality by bits is exact.
-#[derive(Drop)]
+#[derive(Clone, Copy)]
 pub struct DepthBiasState {
     pub constant: i32,
     pub slope_scale: u32,
@@ -229,13 +229,13 @@ impl DepthBiasState {
     }
 }
 
-#[derive(Drop)]
+#[derive(Clone, Copy)]
 pub enum OptionBlend {
     None,
     Some(BlendDesc),
 }
 
-#[derive(Drop)]
+#[derive(Clone, Copy)]
 pub struct ColorTargetDesc {
     pub mask: u32,
     pub blend: OptionBlend,
@@ -255,7 +255,7 @@ impl ColorTargetDesc {
     }
 }
 
-#[derive(Drop)]
+#[derive(Clone, Copy)]
 pub enum Command {
     Draw {
         topology: u32,
@@ -412,7 +412,7 @@ pub enum Command {
 }
 
 // One element of the lent list.
-#[derive(Drop)]
+#[derive(Clone, Copy)]
 pub struct Record {
     pub command: Command,
 }

@@ -2,7 +2,7 @@
 ghost use Rattle.std.specs.Prelude.{◌≡◌};
 ghost use Rattle.records.specs.Outcome.{number, none_hold, either as either_of, smallest};
 
-#[derive(Drop)]
+#[derive(Clone, Copy)]
 pub enum Outcome {
     // Carried through.
     Done,
@@ -39,7 +39,7 @@ pub fn number_of(outcome: Outcome) -> u8
 }
 
 // Which of the seven conditions hold.
-#[derive(Drop)]
+#[derive(Clone, Copy)]
 pub struct Conditions {
     pub phase: bool,
     pub many: bool,

@@ -21,7 +21,7 @@ pub const ASPECT_DEPTH: u32 = 2;
 
 pub const ASPECT_STENCIL: u32 = 4;
 
-#[derive(Drop)]
+#[derive(Clone, Copy)]
 pub struct ColorF64 {
     pub r: f64,
     pub g: f64,
@@ -29,13 +29,13 @@ pub struct ColorF64 {
     pub a: f64,
 }
 
-#[derive(Drop)]
+#[derive(Clone, Copy)]
 pub enum OptionView {
     None,
     Some(TextureView),
 }
 
-#[derive(Drop)]
+#[derive(Clone, Copy)]
 pub struct ColorAttachment {
     pub view: TextureView,
     pub depth_slice: OptionU32,
@@ -44,19 +44,19 @@ pub struct ColorAttachment {
     pub clear_value: ColorF64,
 }
 
-#[derive(Drop)]
+#[derive(Clone, Copy)]
 pub enum OptionColorAttachment {
     None,
     Some(ColorAttachment),
 }
 
 // A colour place: filled or empty.
-#[derive(Drop)]
+#[derive(Clone, Copy)]
 pub struct ColorPlace {
     pub attachment: OptionColorAttachment,
 }
 
-#[derive(Drop)]
+#[derive(Clone, Copy)]
 pub struct DepthStencilAttachment {
     pub view: TextureView,
     pub depth_ops: u32,
@@ -65,26 +65,26 @@ pub struct DepthStencilAttachment {
     pub clear_stencil: u32,
 }
 
-#[derive(Drop)]
+#[derive(Clone, Copy)]
 pub enum OptionDepthStencil {
     None,
     Some(DepthStencilAttachment),
 }
 
 // The places in the lent query set that are written at the beginning and at the end of the pass.
-#[derive(Drop)]
+#[derive(Clone, Copy)]
 pub struct TimestampWrites {
     pub beginning_of_pass_write_index: OptionU32,
     pub end_of_pass_write_index: OptionU32,
 }
 
-#[derive(Drop)]
+#[derive(Clone, Copy)]
 pub enum OptionTimestampWrites {
     None,
     Some(TimestampWrites),
 }
 
-#[derive(Drop)]
+#[derive(Clone, Copy)]
 pub struct RenderPassDescriptor {
     pub extent: Extent3d,
     pub sample_count: u32,

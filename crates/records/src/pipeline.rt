@@ -13,7 +13,7 @@ use names::gl::StencilState;
 use names::wgt::{PrimitiveState, PrimitiveTopology};
 
 // The flags of a board, of `PrivateCapabilities` those that the recorder reads.
-#[derive(Drop)]
+#[derive(Clone, Copy)]
 pub struct PrivateCapabilities {
     pub memory_barriers: bool,
     pub vertex_buffer_layout: bool,
@@ -21,36 +21,36 @@ pub struct PrivateCapabilities {
     pub multisampled_render_to_texture: bool,
 }
 
-#[derive(Drop)]
+#[derive(Clone, Copy)]
 pub enum OptionVertexBufferDesc {
     None,
     Some(VertexBufferDesc),
 }
 
-#[derive(Drop)]
+#[derive(Clone, Copy)]
 pub struct VertexBufferLayout {
     pub desc: OptionVertexBufferDesc,
 }
 
 // The sampler that a texture unit takes: an entry of `SamplerBindMap`.
-#[derive(Drop)]
+#[derive(Clone, Copy)]
 pub struct SamplerBind {
     pub sampler_index: OptionU32,
 }
 
-#[derive(Drop)]
+#[derive(Clone, Copy)]
 pub enum OptionDepthState {
     None,
     Some(DepthState),
 }
 
-#[derive(Drop)]
+#[derive(Clone, Copy)]
 pub enum OptionStencilState {
     None,
     Some(StencilState),
 }
 
-#[derive(Drop)]
+#[derive(Clone, Copy)]
 pub struct PipelineInner {
     pub program: u32,
     pub sampler_map: [SamplerBind; MAX_TEXTURE_SLOTS],
@@ -60,7 +60,7 @@ pub struct PipelineInner {
     pub clip_distance_count: u32,
 }
 
-#[derive(Drop)]
+#[derive(Clone, Copy)]
 pub struct RenderPipeline {
     pub inner: PipelineInner,
     pub topology: PrimitiveTopology,
@@ -77,7 +77,7 @@ pub struct RenderPipeline {
     pub alpha_to_coverage_enabled: bool,
 }
 
-#[derive(Drop)]
+#[derive(Clone, Copy)]
 pub struct ComputePipeline {
     pub inner: PipelineInner,
 }

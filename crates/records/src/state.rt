@@ -16,7 +16,7 @@ use crate::limits::{
 use crate::outcome::Outcome;
 use names::gl::{PrimitiveState, StencilState};
 
-#[derive(Drop)]
+#[derive(Clone, Copy)]
 pub enum Phase {
     Closed,
     Open,
@@ -24,14 +24,14 @@ pub enum Phase {
     Compute,
 }
 
-#[derive(Drop)]
+#[derive(Clone, Copy)]
 pub enum IndexFormat {
     Uint16,
     Uint32,
 }
 
 // The phase, and how many commands, marker bytes and queries have been recorded.
-#[derive(Drop)]
+#[derive(Clone, Copy)]
 pub struct Progress {
     pub phase: Phase,
     pub commands: usize,
@@ -53,7 +53,7 @@ impl Progress {
 }
 
 // A pair of slot description and binding: the description's stride; the binding's buffer and offset.
-#[derive(Drop)]
+#[derive(Clone, Copy)]
 pub struct VertexSlot {
     pub stride: u32,
     pub raw: u32,
@@ -73,7 +73,7 @@ impl VertexSlot {
 }
 
 // The field order keeps the numbers that a call changes next to the slots, with no padding between.
-#[derive(Drop)]
+#[derive(Clone, Copy)]
 pub struct VertexState {
     // Which slots have a description, and which a binding; which descriptions step by instance.
     pub described: u32,
@@ -110,7 +110,7 @@ impl VertexState {
 }
 
 // What a draw command takes from the state.
-#[derive(Drop)]
+#[derive(Clone, Copy)]
 pub struct DrawState {
     pub topology: u32,
     pub index_format: IndexFormat,
@@ -134,7 +134,7 @@ impl DrawState {
 }
 
 // What is recorded only on change, and the stencil.
-#[derive(Drop)]
+#[derive(Clone, Copy)]
 pub struct FixedState {
     pub primitive: PrimitiveState,
     pub color_targets: [ColorTargetDesc; MAX_COLOR_ATTACHMENTS],
@@ -165,14 +165,14 @@ impl FixedState {
     }
 }
 
-#[derive(Drop)]
+#[derive(Clone, Copy)]
 pub struct TextureSlotDesc {
     pub tex_target: u32,
     pub sampler_index: u32,
 }
 
 // The samplers by number, and each texture unit with the number of the sampler that it takes.
-#[derive(Drop)]
+#[derive(Clone, Copy)]
 pub struct BindState {
     pub samplers: [u32; MAX_SAMPLERS],
     // Which samplers are set, and which units take a sampler.
@@ -199,7 +199,7 @@ impl BindState {
 }
 
 // A colour place that is resolved at the end of the pass, and where to.
-#[derive(Drop)]
+#[derive(Clone, Copy)]
 pub struct ResolveDesc {
     pub place: u32,
     pub dst: TextureView,
@@ -225,7 +225,7 @@ impl ResolveDesc {
 
 // What the end of the pass records. The invalidation set has bits 0 to 7 for the colours, 8 for
 // depth, 9 for stencil.
-#[derive(Drop)]
+#[derive(Clone, Copy)]
 pub struct PassState {
     pub render_size: Extent3d,
     pub resolves: [ResolveDesc; MAX_COLOR_ATTACHMENTS],
@@ -254,7 +254,7 @@ impl PassState {
 
 // The immediate descriptors of the current pipeline, the current words, and whether the
 // descriptors were sent since the last pipeline call.
-#[derive(Drop)]
+#[derive(Clone, Copy)]
 pub struct ImmediateState {
     pub descs: [ImmediateDesc; MAX_IMMEDIATES_COMMANDS],
     pub count: usize,
@@ -281,7 +281,7 @@ impl ImmediateState {
     }
 }
 
-#[derive(Drop)]
+#[derive(Clone, Copy)]
 pub struct State {
     pub progress: Progress,
     pub vertex: VertexState,
@@ -317,7 +317,7 @@ impl State {
 }
 
 // What a call answers: carried through or turned away, and the next state.
-#[derive(Drop)]
+#[derive(Clone, Copy)]
 pub struct Answer {
     pub outcome: Outcome,
     pub state: State,

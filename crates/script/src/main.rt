@@ -15,7 +15,7 @@ use sessions::input::{Input, MAX_TURNS, line_number, new_input, next_line, turns
 use sessions::verdict::played_length;
 
 // Where the reading stands, how much of the output buffer is used, and whether there is more.
-#[derive(Drop)]
+#[derive(Clone, Copy)]
 struct Place {
     input: Input,
     used: usize,
@@ -85,7 +85,7 @@ fn run_session(
 
 // The first line of the next session: where the reading stands after it, whether there is a session
 // and its first line is right, and what that line says.
-#[derive(Drop)]
+#[derive(Clone, Copy)]
 struct Opening {
     place: Place,
     header: Header,

@@ -9,7 +9,7 @@ use sessions::verdict::verdict;
 
 // How far a session has come, beside its state: whether a list is finished, the output, the input,
 // how many calls are played, and what is wrong with the last line, if anything is.
-#[derive(Drop)]
+#[derive(Clone, Copy)]
 pub struct Tally {
     pub listed: bool,
     pub output: Output,
@@ -21,7 +21,7 @@ pub struct Tally {
 
 // What a line's call comes to, beside its state: the cursor past the line, the number of its outcome,
 // the output, whether it ends a list, and the progress after it.
-#[derive(Drop)]
+#[derive(Clone, Copy)]
 pub struct Call {
     pub next: Cursor,
     pub number: u8,

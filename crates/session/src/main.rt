@@ -23,7 +23,7 @@ fn board() -> PrivateCapabilities {
 }
 
 // A line of a text.
-#[derive(Drop)]
+#[derive(Clone, Copy)]
 struct Span {
     begin: usize,
     end: usize,
@@ -45,7 +45,7 @@ fn line_at(text: &[u8], at: usize) -> Span
 }
 
 // The state and the output between two calls, and where the next line begins.
-#[derive(Drop)]
+#[derive(Clone, Copy)]
 struct Stage {
     state: State,
     output: Output,

@@ -5,13 +5,13 @@ use flat::cursor::{Cursor, closed, start, take_bool, take_count};
 use records::limits::{MAX_BYTES, MAX_COMMANDS, MAX_QUERIES};
 use records::pipeline::PrivateCapabilities;
 
-#[derive(Drop)]
+#[derive(Clone, Copy)]
 pub struct Board {
     pub caps: PrivateCapabilities,
     pub next: Cursor,
 }
 
-#[derive(Drop)]
+#[derive(Clone, Copy)]
 pub struct Header {
     pub caps: PrivateCapabilities,
     pub commands: usize,

@@ -10,7 +10,7 @@ pub const MAX_TURNS: usize = 18446744073709551615;
 
 // The unread part of the buffer; the line that was read, its length and its number from 1; whether
 // there is one, whether it was too long, and whether the input is at its end.
-#[derive(Drop)]
+#[derive(Clone, Copy)]
 pub struct Input {
     pub start: usize,
     pub end: usize,

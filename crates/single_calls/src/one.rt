@@ -17,14 +17,14 @@ use records::outcome::{Conditions, Outcome};
 use records::state::{Answer, DrawState, Progress, State};
 
 // Where the command goes, and whether there is one.
-#[derive(Drop)]
+#[derive(Clone, Copy)]
 pub struct One {
     pub at: usize,
     pub n: usize,
     pub command: Command,
 }
 
-#[derive(Drop)]
+#[derive(Clone, Copy)]
 pub struct OnePlan {
     pub progress: Progress,
     pub draw: DrawState,

@@ -31,7 +31,7 @@ fn slots_over(v: VertexState, w: u32, m: u32) -> bool
 
 // What has been found of the attributes gone through: how many are to be sent, their slots, and
 // whether one of them is over.
-#[derive(Drop)]
+#[derive(Clone, Copy)]
 pub struct Sweep {
     pub count: u32,
     pub slots: u32,
@@ -91,7 +91,7 @@ fn sent_attributes(v: VertexState, m: u32) -> u32
 
 // What a draw's slots come to: how many commands, the slots or attributes that get one, the dirty
 // mask after them, the slots that lost their bit, and whether a product or sum leaves its field.
-#[derive(Drop)]
+#[derive(Clone, Copy)]
 pub struct Prepared {
     pub count: u32,
     pub places: u32,

@@ -4,7 +4,7 @@ use played::print::{put, put_number};
 use spans::{Span, span_number};
 
 // The lower and the upper number, and the cursor past the line or what is wrong with it.
-#[derive(Drop)]
+#[derive(Clone, Copy)]
 pub struct Bounds {
     pub lower: u32,
     pub upper: u32,

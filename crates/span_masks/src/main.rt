@@ -21,7 +21,7 @@ use spans::rebound_span;
 const MAX_CALLS: usize = 65536;
 
 // Where the reading stands, how much of the output buffer is used, and whether there is more.
-#[derive(Drop)]
+#[derive(Clone, Copy)]
 struct Place {
     input: Input,
     used: usize,
@@ -47,7 +47,7 @@ fn after_line(out: &mut [u8], used: usize, input: Input, wrong: Cursor) -> Place
 
 // What the calls of a session leave: the state, where the reading stands, and what is wrong with
 // the last line, if anything is. The state is of use only where nothing is.
-#[derive(Drop)]
+#[derive(Clone, Copy)]
 struct Ran {
     state: State,
     input: Input,
@@ -120,7 +120,7 @@ fn put_end(
 }
 
 // A session's first line: where the reading stands after it, and what it says.
-#[derive(Drop)]
+#[derive(Clone, Copy)]
 struct Opening {
     place: Place,
     header: Header,
@@ -171,7 +171,7 @@ fn session(
 
 // The line of a span: where the reading stands after it, whether there is one and it is right, and
 // what it says.
-#[derive(Drop)]
+#[derive(Clone, Copy)]
 struct Asked {
     place: Place,
     bounds: Bounds,

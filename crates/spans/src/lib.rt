@@ -14,7 +14,7 @@ use records::state::{State, VertexState};
 use slots::working;
 
 // The masks, or why there are none.
-#[derive(Drop)]
+#[derive(Clone, Copy)]
 pub enum Span {
     // Slots rebound for every number of the span, and for at least one.
     Masks(u32, u32),
@@ -24,7 +24,7 @@ pub enum Span {
     Reversed,
 }
 
-#[derive(Drop)]
+#[derive(Clone, Copy)]
 struct Pair {
     pub always: u32,
     pub sometimes: u32,

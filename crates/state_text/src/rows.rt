@@ -11,7 +11,7 @@ use records::state::{DrawState, IndexFormat};
 use text::field::{Field, Shown, one, two};
 
 // What is shown of a place of the state, where it is there.
-#[derive(Drop)]
+#[derive(Clone, Copy)]
 pub struct Told {
     pub there: bool,
     pub shown: Shown,

@@ -16,7 +16,7 @@ use text::field::Word;
 use text::put::{put_shown, put_word};
 
 // Place i of a row.
-#[derive(Drop)]
+#[derive(Clone, Copy)]
 pub struct Place {
     pub row: usize,
     pub i: u32,

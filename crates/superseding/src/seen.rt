@@ -8,7 +8,7 @@ use lists::class::{Class, Thing};
 use mask::{set, test};
 
 // Where the masks have the thing that a command sets, if it is a setting of the seven kinds.
-#[derive(Drop)]
+#[derive(Clone, Copy)]
 pub enum Mark {
     // By slot.
     VertexBuffer(u32),
@@ -21,7 +21,7 @@ pub enum Mark {
 }
 
 // The things that are set again before anything ends the wait, by slot, unit and number.
-#[derive(Drop)]
+#[derive(Clone, Copy)]
 pub struct Seen {
     pub buffers: u32,
     pub samplers: u32,

@@ -12,7 +12,7 @@ use records::command::{Command, Record};
 use records::outcome::Outcome;
 
 // Document 01's answer, and how many commands the list has now.
-#[derive(Drop)]
+#[derive(Clone, Copy)]
 pub struct Treated {
     pub outcome: Outcome,
     pub commands: usize,

@@ -6,7 +6,7 @@ ghost use Rattle.text.specs.Shown.{built};
 use records::command::OptionU32;
 
 // A field, by the signs of the printed form.
-#[derive(Drop)]
+#[derive(Clone, Copy)]
 pub enum Field {
     // u
     Number(u32),
@@ -29,20 +29,20 @@ pub enum Field {
 }
 
 // A word that is printed as it stands.
-#[derive(Drop)]
+#[derive(Clone, Copy)]
 pub enum Word {
     DirtyMask,
     State,
 }
 
 // An element of an array is a struct.
-#[derive(Drop)]
+#[derive(Clone, Copy)]
 pub struct Item {
     pub is: Field,
 }
 
 // The place of the name among the names, and the fields: the first `count` of `items`.
-#[derive(Drop)]
+#[derive(Clone, Copy)]
 pub struct Shown {
     pub name: usize,
     pub count: usize,

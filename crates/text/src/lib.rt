@@ -15,7 +15,7 @@ use crate::shown::shown;
 use records::command::Command;
 
 // Where the next line may begin; or there was no room for this one.
-#[derive(Drop)]
+#[derive(Clone, Copy)]
 pub enum Wrote {
     Next(usize),
     NoRoom,

@@ -17,14 +17,14 @@ use records::outcome::Outcome;
 use records::state::{Answer, Progress, State};
 
 // Where the commands go, how many they are, and how many barriers are read.
-#[derive(Drop)]
+#[derive(Clone, Copy)]
 pub struct Barriers {
     pub at: usize,
     pub n: usize,
     pub count: usize,
 }
 
-#[derive(Drop)]
+#[derive(Clone, Copy)]
 pub struct BarrierPlan {
     pub progress: Progress,
     pub batch: Barriers,

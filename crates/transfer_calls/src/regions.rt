@@ -19,7 +19,7 @@ const COPY_READ_BUFFER: u32 = 0x8f36;
 const COPY_WRITE_BUFFER: u32 = 0x8f37;
 
 // Where the commands go, how many they are, how many regions are read, and the two buffers.
-#[derive(Drop)]
+#[derive(Clone, Copy)]
 pub struct Copies {
     pub at: usize,
     pub n: usize,
@@ -28,7 +28,7 @@ pub struct Copies {
     pub dst: Buffer,
 }
 
-#[derive(Drop)]
+#[derive(Clone, Copy)]
 pub struct CopyPlan {
     pub progress: Progress,
     pub batch: Copies,

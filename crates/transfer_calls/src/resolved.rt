@@ -14,7 +14,7 @@ use records::state::{Answer, Progress, State};
 
 // Where the command goes and whether there is one, the range of the query list, and where its
 // results go.
-#[derive(Drop)]
+#[derive(Clone, Copy)]
 pub struct Resolved {
     pub at: usize,
     pub n: usize,
@@ -25,7 +25,7 @@ pub struct Resolved {
 }
 
 // `size` queries of the set, from `from` on, go to the query list from `to` on.
-#[derive(Drop)]
+#[derive(Clone, Copy)]
 pub struct ResolvedPlan {
     pub progress: Progress,
     pub batch: Resolved,
