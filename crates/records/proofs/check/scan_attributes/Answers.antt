@@ -10,6 +10,7 @@ use Rattle.records.specs.Check.{among, locations}
 use Rattle.records.specs.Scan.{scanned, seen-before}
 use Rattle.records.specs.Start.{start_attribute}
 use Rattle.records.proofs.Scanning.{none-behind, one-counted}
+use Rattle.records.proofs.check.scan_attributes.Goals.{then-a-lt16, else-a-lt16}
 use Rattle.records.proofs.check.scan_attributes.Goals as goal
 
 pub loop-left-init : goal.loop-left-init
@@ -17,6 +18,12 @@ unfolding scanned
 loop-left-init c =
     let e : length c.args.attributes ≡ 16 = c.well_formed.0.1.0.1 in
     (omega arith, rw (c.within-left.ensures, c.new-scan.ensures, none-behind c.args.attributes c.args.count 16 e))
+
+pub returns : goal.returns
+returns c =
+    let l = c.loop-left in
+    let e : l.left ≡ 0 = omega arith in
+    rw e at l.invariant.1
 
 pub loop-left-preserved : goal.loop-left-preserved
 unfolding scanned
@@ -26,8 +33,10 @@ loop-left-preserved c =
     let a = get_or c.args.attributes (l.left - 1) start_attribute in
     let later = drop l.left (take c.args.count c.args.attributes) in
     let again : c.if-a-lt16.again ≡ among a.location (locations later) =
-    ⊎_elim (λ w. w.2 ∙ w.1.ensures ∙ ap (λ (x : AttributeScan). test_bit x.seen a.location) l.invariant.1 ∙ seen-before later a.location w.0.taken)
-    (λ w. w.2 ∙ w.1.ensures) c.if-a-lt16.branch in (
+        elim c.if-a-lt16.branch [
+          then-a-lt16 w ↦ w.again-is ∙ w.test-again.ensures ∙ ap (λ (x : AttributeScan). test_bit x.seen a.location) l.invariant.1 ∙ seen-before later a.location w.if-a-lt16.true
+        | else-a-lt16 w ↦ w.again-is ∙ w.stands_later-again.ensures
+        ] in (
       omega arith,
       rw (
         one-counted c.args.attributes c.args.count 16 l.left start_attribute e c.loop-left-test.true l.invariant.0,
@@ -36,9 +45,3 @@ loop-left-preserved c =
         again,
       ),
     )
-
-pub returns : goal.returns
-returns c =
-    let l = c.loop-left in
-    let e : l.left ≡ 0 = omega arith in
-    rw e at l.invariant.1
