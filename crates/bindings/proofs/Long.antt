@@ -19,14 +19,14 @@ long : {A B : Type 0} (f : A → B) (l : List A) (n : ℕ) → length (map f l) 
 long f l n e = sym (length-map l f) ∙ e
 
 pub groups-long : (s : PipelineLayout) (vs : List Val) → Is (row the-layout) s vs → length s.groups ≡ 8
-groups-long s vs g = long _ s.groups 8 g.1.1.0.1.0.1
+groups-long s vs g = g.1.1.0.1.0.1
 
 pub entries-long : (s : GroupEntries) (vs : List Val) → Is (row the-entries) s vs → length s.entries ≡ 64
-entries-long s vs g = long _ s.entries 64 g.1.1.0.1.0.1
+entries-long s vs g = g.1.1.0.1.0.1
 
 pub contents-long : (s : BindGroup) (vs : List Val) → Is (row the-group) s vs → length s.contents ≡ 64
-contents-long s vs g = long _ s.contents 64 g.1.1.0.1.0.1
+contents-long s vs g = g.1.1.0.1.0.1
 
 -- field 2
 pub words_long : (s : ImmediateState) (vs : List Val) → Is (row the-immediates) s vs → length s.words ≡ 64
-words_long s vs g = long _ s.words 64 g.1.1.1.1.0.1.0.1
+words_long s vs g = g.1.1.1.1.0.1.0.1

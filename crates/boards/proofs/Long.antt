@@ -10,7 +10,7 @@ use Rattle.boards.specs.declared.settings.Settings.{Settings}
 use Rattle.boards.specs.contracts.settings.Settings.{the_type}
 
 pub locations-long : (s : Settings) (vs : List Val) → Is (row the_type) s vs → length s.locations ≡ 16
-locations-long s vs g = long _ s.locations 16 g.1.1.0.1.0.1
+locations-long s vs g = g.1.1.0.1.0.1
 
 pub slots-long : (s : Settings) (vs : List Val) → Is (row the_type) s vs → length s.slots ≡ 16
-slots-long s vs g = long _ s.slots 16 g.1.1.1.0.1.0.1
+slots-long s vs g = g.1.1.1.0.1.0.1

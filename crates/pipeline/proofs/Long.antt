@@ -16,16 +16,16 @@ long f l n e = sym (length-map l f) ∙ e
 
 -- field 1
 pub map-long : (p : PipelineInner) (vs : List Val) → Is (row the-inner) p vs → length p.sampler_map ≡ 16
-map-long p vs g = long _ p.sampler_map 16 g.1.1.1.0.1.0.1
+map-long p vs g = g.1.1.1.0.1.0.1
 
 -- field 3
 pub layouts-long : (p : RenderPipeline) (vs : List Val) → Is (row the-render) p vs → length p.vertex_buffers ≡ 16
-layouts-long p vs g = long _ p.vertex_buffers 16 g.1.1.1.1.1.0.1.0.1
+layouts-long p vs g = g.1.1.1.1.1.0.1.0.1
 
 -- field 5
 pub attributes-long : (p : RenderPipeline) (vs : List Val) → Is (row the-render) p vs → length p.vertex_attributes ≡ 16
-attributes-long p vs g = long _ p.vertex_attributes 16 g.1.1.1.1.1.1.1.0.1.0.1
+attributes-long p vs g = g.1.1.1.1.1.1.1.0.1.0.1
 
 -- field 7
 pub targets-long : (p : RenderPipeline) (vs : List Val) → Is (row the-render) p vs → length p.color_targets ≡ 8
-targets-long p vs g = long _ p.color_targets 8 g.1.1.1.1.1.1.1.1.1.0.1.0.1
+targets-long p vs g = g.1.1.1.1.1.1.1.1.1.0.1.0.1

@@ -51,15 +51,15 @@ long f l n e = sym (length-map l f) ∙ e
 
 -- field 1
 pub targets-long : (s : FixedState) (vs : List Val) → Is (row the_fixed) s vs → length s.color_targets ≡ 8
-targets-long s vs g = long _ s.color_targets 8 g.1.1.1.0.1.0.1
+targets-long s vs g = g.1.1.1.0.1.0.1
 
 -- field 2
 pub words_long : (s : ImmediateState) (vs : List Val) → Is (row the-immediates) s vs → length s.words ≡ 64
-words_long s vs g = long _ s.words 64 g.1.1.1.1.0.1.0.1
+words_long s vs g = g.1.1.1.1.0.1.0.1
 
 -- field 5
 pub instances-long : (s : VertexState) (vs : List Val) → Is (row the-vertex) s vs → length s.instances ≡ 16
-instances-long s vs g = long _ s.instances 16 g.1.1.1.1.1.1.1.0.1.0.1
+instances-long s vs g = g.1.1.1.1.1.1.1.0.1.0.1
 
 -- within a list the default is of no account
 pub within : {A : Type 0} (l : List A) (i : ℕ) (d e : A) → i < length l → get_or l i d ≡ get_or l i e
