@@ -1,13 +1,11 @@
 -- A mask whose place i is in it where a function says so, for the places below n: what a loop over an array makes. Assumes nothing.
 -- `by-at`: the function is what the mask says. `by_next`: one more place. `by-lt`: no place from n on. `by-same`: a mask is made of its own places.
-use Rattle.std.specs.Prelude.{ℕ, zero, suc, ◌+◌, ◌*◌, ◌/◌, ◌^◌, ◌≤◌, ◌<◌, ◌≡◌, refl, Bool, true, false, ◌||◌, ◌&&◌, not, length, take, get_or, eqb}
+use Rattle.std.specs.Prelude.{ℕ, suc, ◌^◌, ◌≤◌, ◌<◌, ◌≡◌, refl, Bool, true, false, ◌||◌, ◌&&◌, eqb}
 use Rattle.std.proofs.Common.{sym, ap, ◌∙◌, subst, lt_of_lt_of_le, arith, pow_mono, eq-eqb, ne_eqb}
-use Rattle.std.specs.Int.Bits.{bit_or, bit_and}
-use Rattle.std.proofs.lemmas.Nat.{or_lt}
 use Rattle.std.proofs.Math.Decide.{ℕ_discrete}
 use Rattle.tables.specs.Tabulate.{tabulate, long, at_place, alike}
-use Rattle.mask.specs.Mask.{test_bit, set_bit, set_bit_if, mask_of, without}
-use Rattle.mask.specs.Laws.{ext, test-mask, mask_lt, test-beyond, test-set, test-or, test-and, test-without, set-lt, and_lt}
+use Rattle.mask.specs.Mask.{test_bit, set_bit_if, mask_of}
+use Rattle.mask.specs.Laws.{ext, test-mask, mask_lt, test-beyond, test-set, set-lt}
 
 -- the places i below n with f i
 unfoldable pub mask_by : ℕ → (ℕ → Bool) → ℕ

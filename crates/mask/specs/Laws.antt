@@ -1,14 +1,14 @@
 -- The laws of masks: `test-set`, `test-clear`, `test-or`, `test-and`, `test-without` (a place after each operation), `test-beyond` (a mask has no place past its width),
 -- `ext` (two masks with the same places are the same), `ones-places` (the count is the length of the list of places), `places-lowest` (the lowest place comes first), `nth-rest`. Assumes nothing.
-use Rattle.std.specs.Prelude.{ℕ, zero, suc, ◌+◌, ◌-◌, ◌*◌, ◌/◌, ◌%◌, ◌^◌, ◌≤◌, ◌<◌, min, max, ◌≡◌, refl, Bool, true, false, not, ◌&&◌, ◌||◌, ◌⊎◌, List, [], ◌∷◌, ◌++◌, ltb, eqb, length, get_or, set, take}
-use Rattle.std.proofs.Common.{zero-le, sym, ap, ap₂, ◌∙◌, subst, inl, inr, not-suc-le-zero, le_of_suc-le-suc, one-mul, mod-eq_of_lt, mod-lt, pow-suc, zero-lt-suc, div-add-mod', mul-div_cancel, eq-zero-or-pos, add-zero, add_comm, lt_of_lt_of_le, add-suc, suc-add, mul-one, lt_irrefl, mul_assoc, zero-add, zero-mul, arith, add-one, ne_eqb, lt-ltb, le-ltb, ltb-true, ltb-false, length-take, pow_pos, pow_mono}
-use Rattle.std.proofs.Math.Nat.{mul-mod_left, zero-min, min-zero, zero-max, max-zero}
+use Rattle.std.specs.Prelude.{ℕ, zero, suc, ◌+◌, ◌-◌, ◌*◌, ◌/◌, ◌%◌, ◌^◌, ◌≤◌, ◌<◌, min, max, ◌≡◌, refl, Bool, true, false, not, ◌&&◌, ◌||◌, ◌⊎◌, List, [], ◌∷◌, ltb, eqb, length, get_or, take}
+use Rattle.std.proofs.Common.{sym, ap, ap₂, ◌∙◌, subst, inl, inr, not-suc-le-zero, le_of_suc-le-suc, one-mul, mod-eq_of_lt, mod-lt, pow-suc, zero-lt-suc, div-add-mod', mul-div_cancel, eq-zero-or-pos, add-zero, add_comm, lt_of_lt_of_le, add-suc, suc-add, mul-one, lt_irrefl, mul_assoc, zero-add, zero-mul, arith, ne_eqb, lt-ltb, le-ltb, ltb-true, ltb-false, length-take, pow_pos, pow_mono}
+use Rattle.std.proofs.Math.Nat.{mul-mod_left, zero-min, min-zero, zero-max}
 use Rattle.std.proofs.Math.Dec.{eqb-zero-suc, eqb-suc-zero, eqb-suc-suc}
 use Rattle.std.proofs.Math.Arith.{digits_div, digits_mod, lt-one, bin_ind}
 use Rattle.std.proofs.Math.Pow.{pow-lt}
 use Rattle.std.specs.Int.Count.{ones, ones_step, count_trailing_zeros, trailing_of_zero}
 use Rattle.std.proofs.lemmas.Nat.{ones-le, and_le_r, or_lt, and_mask}
-use Rattle.std.specs.Int.Bits.{bit_and, bit_or, bit_xor, differ, and_step, or_step, xor_step, and_self, xor_zero_r, or_shifted_r, and_zero_r, and_zero_l, or_zero_r}
+use Rattle.std.specs.Int.Bits.{bit_and, bit_or, bit_xor, and_step, or_step, xor_step, and_self, xor_zero_r, or_shifted_r, and_zero_r, and_zero_l}
 use Rattle.mask.specs.Mask.{is_one, digit_of, odd, test_bit, bit_at, set_bit, set_bit_if, without, clear_bit, rest, mask_of, flags_of, cons?, places_from, places}
 
 -- ---- digits

@@ -1,5 +1,5 @@
 -- Each enumeration of WebGPU's names, and that its map gives different numbers for different names (document 02, request 2, reads them back). Assumes nothing.
-use Rattle.std.specs.Prelude.{ℕ, ◌<◌, ◌≡◌, refl, length, get_or}
+use Rattle.std.specs.Prelude.{◌<◌, ◌≡◌, refl, length, get_or}
 use Rattle.std.proofs.Common.{arith}
 use Rattle.names.specs.declared.wgt.CompareFunction.{CompareFunction}
 use Rattle.names.specs.declared.wgt.CompareFunction.TheVariants.{Never, Less, Equal, LessEqual, Greater, NotEqual, GreaterEqual, Always}

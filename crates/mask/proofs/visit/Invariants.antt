@@ -1,6 +1,6 @@
 -- `mask::visit` meets its contract. What is written, and then the places of what is left, are the places of the mask.
 -- The measure is what is left. Assumes nothing.
-use Prim.Native.Nat.{◌+◌, ◌<◌, ◌≤◌, ◌^◌}
+use Prim.Native.Nat.{◌<◌, ◌≤◌, ◌^◌}
 use mathlib.Core.Path.{◌≡◌}
 use mathlib.Core.List.{◌++◌}
 use lib.ListN.{length, take}
