@@ -1,0 +1,7 @@
+-- `pipeline::inner::changed_units` meets its contract. Assumes nothing.
+use Rattle.pipeline.specs.Inner.{changed_units}
+use Rattle.pipeline.proofs.inner.changed_units.Goals as goal
+
+pub returns : goal.returns
+unfolding changed_units
+returns c = c.changed_in.ensures

@@ -1,0 +1,9 @@
+-- `pipeline::stencil::stencil_command_at` meets its contract, case by case. Assumes nothing.
+use mathlib.Core.Path.{◌≡◌}
+use mathlib.Core.List.{[]}
+use native.Mathlib.Nat.{not-suc-le-zero}
+use Rattle.pipeline.specs.Fixed.{stencil_commands}
+use Rattle.pipeline.proofs.stencil.stencil_command_at.Goals as goal
+
+pub returns-in-None : goal.returns-in-None
+returns-in-None c = let z : stencil_commands c.args.stencil ≡ [] = cc in λ h d. absurd (not-suc-le-zero (rw z at h))

@@ -1,0 +1,20 @@
+-- `pipeline::vertex::stepped_slots` meets its contract. Invariant: the mask of the slots below i. Measure: the slots left. Assumes nothing.
+use Prim.Native.Nat.{ℕ, ◌-◌, ◌≤◌}
+use mathlib.Core.Bool.{Bool}
+use mathlib.Core.Path.{◌≡◌}
+use mathlib.Core.List.{List}
+use Rattle.mask.specs.Mask.{test_bit}
+use Rattle.mask.specs.By.{mask_by}
+use Rattle.records.specs.declared.pipeline.VertexBufferLayout.{VertexBufferLayout}
+use Rattle.pipeline.specs.Vertex.{step_or}
+use Rattle.pipeline.specs.Desc.{desc_in}
+use Rattle.pipeline.proofs.vertex.stepped_slots.Given as goal
+
+abbrev pub at : List VertexBufferLayout → ℕ → ℕ → ℕ → Bool
+at layouts count old i = step_or (test_bit old i) (desc_in layouts count i)
+
+abbrev pub invariant-loop-i : goal.invariant-loop-i
+invariant-loop-i l = (l.i ≤ 16) × (l.slots ≡ mask_by l.i (at l.layouts l.count l.old))
+
+abbrev pub decreases-loop-i : goal.decreases-loop-i
+decreases-loop-i l = 16 - l.i
