@@ -1,4 +1,4 @@
--- Laws of the search. `search-hit`, `search-miss`, `search-none`: one turn of it. `past_end`: the arm of a `match` on a place that is left when no number was met.
+-- Laws of the search. `search-hit`, `search-miss`, `search-none`: one turn of it.
 -- `searched-read`: a table searched from its end gives the place of the name that has the number. Assumes nothing.
 use Prim.Native.Nat.{ℕ, zero, suc, ◌<◌, ◌≤◌}
 use mathlib.Core.Path.{◌≡◌, refl, sym, ap, ◌∙◌}
@@ -7,7 +7,6 @@ use mathlib.Core.List.{List, [], ◌∷◌, map}
 use mathlib.Core.Option.{none, some}
 use mathlib.Core.Logic.{◌⊎◌, inl, inr}
 use native.Mathlib.Nat.{le_of_suc-le-suc, not-suc-le-zero, le_refl}
-use native.Mathlib.Decide.{ℕ_discrete}
 use native.Mathlib.Omega.{arith}
 use lib.Dec.{T, eqb, ltb}
 use lib.ListN.{length, get_or}
@@ -33,26 +32,6 @@ none-at : {A : Type 0} (l : List A) (k : ℕ) → length l ≤ k → element_at 
 none-at [] k h = refl
 none-at (b ∷ l) zero h = absurd (not-suc-le-zero h)
 none-at (b ∷ l) (suc k) h = none-at l k (le_of_suc-le-suc h)
-
--- k is none of the numbers below n: what the last arm of a `match` knows
-abbrev pub NoneOf : ℕ → ℕ → Type 0
-NoneOf zero k = Unit {0}
-NoneOf (suc n) k = NoneOf n k × (k ≡ n → ⊥)
-
-none_below : (n k : ℕ) → NoneOf n k → n ≤ k
-none_below zero k h = omega arith
-none_below (suc n) k h = go (none_below n k h.0) (ℕ_discrete k n)
-  where
-    go : n ≤ k → Dec (k ≡ n) → suc n ≤ k
-    go l (yes e) = absurd (h.1 e)
-    go l (no ne) = small (ltb n k) refl
-      where
-        small : (b : Bool) → ltb n k ≡ b → suc n ≤ k
-        small true q = ltb-true n k q
-        small false q = let m = ltb-false n k q in absurd (ne (omega arith))
-
-pub past_end : {A : Type 0} (l : List A) (k : ℕ) → NoneOf (length l) k → element_at l k ≡ none
-past_end l k h = none-at l k (none_below (length l) k h)
 
 at-element : {A : Type 0} (d : A) (l : List A) (k : ℕ) → k < length l → element_at l k ≡ some (get_or l k d)
 at-element d [] k h = absurd (not-suc-le-zero h)
