@@ -42,6 +42,21 @@ module _ {A : Type 0} {X : Type 0} (f : A → ℕ → X → A) (a : A) (l : List
   folded-next i d h less = ap (fold_at f a from) (part-next l from i d h less) ∙ fold_more f a from (part l from i) (get_or l i d) ∙ ap
       (λ (j : ℕ). f (fold_at f a from (part l from i)) j (get_or l i d)) (part_length l from i h (omega arith))
 
+-- a loop that goes up: a is the value of the elements from `from` up to i, and it ends at `to`
+module _ {A : Type 0} {X : Type 0} (f : A → ℕ → X → A) (a₀ : A) (l : List X) (from to : ℕ) where
+  abbrev pub Folded : A → ℕ → Type 0
+  Folded a i = (from ≤ i) × (i ≤ to) × (a ≡ fold_at f a₀ from (part l from i))
+
+  pub folded_none : from ≤ to → Folded a₀ from
+  folded_none h = (omega arith, h, sym (folded-none f a₀ l from))
+
+  pub folded_more : (a b : A) (i : ℕ) (d : X) → Folded a i → i < to → to ≤ length l → b ≡ f a i (get_or l i d) → Folded b (i + 1)
+  folded_more a b i d h less within e =
+      (omega (arith, h.0), omega arith, e ∙ ap (λ (c : A). f c i (get_or l i d)) h.2 ∙ sym (folded-next f a₀ l from i d h.0 (omega arith)))
+
+  pub folded_end : (a : A) (i : ℕ) → Folded a i → to ≤ i → a ≡ fold_at f a₀ from (part l from to)
+  folded_end a i h past = let e : i ≡ to = omega (arith, h.1) in h.2 ∙ ap (λ (m : ℕ). fold_at f a₀ from (part l from m)) e
+
 -- an element of a list that has one
 pub any_of : {X : Type 0} (l : List X) (i : ℕ) → i < length l → X
 any_of [] i h = absurd (omega arith)

@@ -3,3 +3,4 @@ pub mod Mapped
 pub mod Sifted
 pub mod Backwards
 pub mod Onwards
+pub mod Turned

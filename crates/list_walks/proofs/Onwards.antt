@@ -1,12 +1,12 @@
 -- Facts of `map_on`.
 -- Assumes nothing.
-use mathlib.Core.Path.{◌≡◌, refl, ◌∙◌, ap, sym}
+use mathlib.Core.Path.{◌≡◌, refl, ◌∙◌, ap, ap₂, sym}
 use mathlib.Core.List.{List, [], ◌∷◌, ◌++◌}
 use Prim.Native.Nat.{ℕ, suc, ◌+◌, ◌<◌, ◌≤◌}
 use native.Mathlib.Nat.{add-zero, add-suc, suc-add, zero-add}
 use native.Mathlib.Numerals.{add-one}
 use native.Mathlib.Omega.{arith}
-use lib.ListN.{length, take, get_or, set}
+use lib.ListN.{length, take, drop, get_or, set}
 use lib.Seq.{take-suc, length-take-le}
 use Rattle.list_walks.specs.Fold.{fold_at}
 use Rattle.list_walks.specs.On.{map_on}
@@ -55,3 +55,28 @@ module _ {A : Type 0} {X : Type 0} (g : A → ℕ → X → X) (f : A → ℕ �
         (e ∙ ap (λ (k : ℕ). g (value i) k (get_or l i d)) (sym (zero-add (length (take i l)) ∙ length-take-le i l (omega arith)))) ∙ sym (on-more a 0 (take i l) (get_or l i d)) ∙ ap
         (map_on g f a 0) (sym (take-suc l i d h)))
         ∙ ap (λ (m : ℕ). changed m) (sym (add-one i))
+
+    -- a loop that goes up: b is the value of the first i, and these are changed; it ends at n
+    abbrev pub On : ℕ → A → List X → ℕ → Type 0
+    On n b m i = (i ≤ n) × (b ≡ value i) × (m ≡ changed i)
+
+    pub on-none : (n : ℕ) → On n a l 0
+    unfolding fold_at map_on
+    on-none n = (omega arith, refl, refl)
+
+    pub on-next : (n : ℕ) (b c : A) (m : List X) (i : ℕ) (d y : X) → On n b m i → i < n → n ≤ length l → c ≡ f b i (get_or m i d) → y ≡ g b i (get_or m i d)
+        → On n c (set m i y) (i + 1)
+    on-next n b c m i d y h less k e e' =
+        let inside : i < length l = omega arith in
+        let read : get_or m i d ≡ get_or l i d = ap (λ (r : List X). get_or r i d) h.2 ∙ changed-get_or i d inside in
+        (
+          omega arith,
+          e ∙ ap₂ (λ (z : A) (x : X). f z i x) h.1 read ∙ sym (value-next i d inside),
+          ap (λ (r : List X). set r i y) h.2 ∙ changed-next i d y inside (e' ∙ ap₂ (λ (z : A) (x : X). g z i x) h.1 read),
+        )
+
+    pub on-end : (n : ℕ) (b : A) (m : List X) (i : ℕ) → On n b m i → n ≤ i → (b ≡ value n) × (m ≡ changed n)
+    on-end n b m i h past = let e : i ≡ n = omega (arith, h.0) in (h.1 ∙ ap value e, h.2 ∙ ap changed e)
+
+    pub changed-is : (n : ℕ) → n ≤ length l → changed n ≡ map_on g f a 0 (take n l) ++ drop n l
+    changed-is n h = ap (λ (k : ℕ). map_on g f a 0 (take n l) ++ drop k l) (count n h)

@@ -1,6 +1,6 @@
 -- Facts of `sifted`, and of `over`.
 -- Assumes nothing.
-use mathlib.Core.Path.{◌≡◌, refl, ◌∙◌, ap, sym}
+use mathlib.Core.Path.{◌≡◌, refl, ◌∙◌, ap, ap₂, sym}
 use mathlib.Core.Bool.{Bool, true, false, not}
 use mathlib.Core.List.{List, [], ◌∷◌, ◌++◌, append_assoc, append-nil}
 use Prim.Native.Nat.{ℕ, suc, ◌+◌, ◌-◌, ◌<◌, ◌≤◌}
@@ -75,3 +75,47 @@ module _ {X : Type 0} (l : List X) where
     where
       snoc-length : (ks : List X) (x : X) → length (ks ++ (x ∷ [])) ≡ suc (length ks)
       snoc-length ks x = length-append ks (x ∷ []) ∙ omega arith
+
+-- ---- a loop that moves what is kept to the front: of the first i these are j, and stand there; it ends at n
+module _ {X : Type 0} (keep : X → Bool) (l : List X) (n : ℕ) where
+  abbrev pub Retained : List X → ℕ → ℕ → Type 0
+  Retained m j i = (i ≤ n) × (j ≡ length (kept keep l i)) × (m ≡ over (kept keep l i) l)
+
+  pub retained_none : Retained l 0 0
+  unfolding sifted
+  retained_none = (omega arith, refl, refl)
+
+  pub retained_short : (m : List X) (j i : ℕ) → Retained m j i → n ≤ length l → j ≤ i
+  retained_short m j i h k = omega (arith, h.0, h.1, kept-short keep l i (omega (arith, h.0)))
+
+  pub retained_length : (m : List X) (j i : ℕ) → Retained m j i → n ≤ length l → length m ≡ length l
+  retained_length m j i h k = ap length h.2 ∙ over-length l (kept keep l i) (omega (arith, h.0, kept-short keep l i (omega (arith, h.0))))
+
+  pub retained-get_or : (m : List X) (j i : ℕ) (d : X) → Retained m j i → n ≤ length l → get_or m i d ≡ get_or l i d
+  retained-get_or m j i d h k = ap (λ (r : List X). get_or r i d) h.2 ∙ over-get_or l (kept keep l i) i d (kept-short keep l i (omega (arith, h.0)))
+
+  -- it is kept
+  pub retained_more : (m : List X) (j i : ℕ) (d : X) → Retained m j i → i < n → n ≤ length l → keep (get_or m i d) ≡ true
+      → Retained (set m j (get_or m i d)) (j + 1) (i + 1)
+  retained_more m j i d h less k e =
+      let inside : i < length l = omega arith in
+      let x = get_or l i d in
+      let read = retained-get_or m j i d h k in
+      let next = kept_more keep l i d inside (ap keep (sym read) ∙ e) in
+      let low : length (kept keep l i) < length l = omega (arith, kept-short keep l i (omega arith)) in
+      (
+        omega arith,
+        omega (arith, h.1, ap length next, length-append (kept keep l i) (x ∷ [])),
+        ap (set m j) read ∙ ap₂ (λ (r : List X) (p : ℕ). set r p x) h.2 h.1 ∙ over-more l (kept keep l i) x low ∙ ap (λ (ks : List X). over ks l) (sym next),
+      )
+
+  -- it is not
+  pub retained_same : (m : List X) (j i : ℕ) (d : X) → Retained m j i → i < n → n ≤ length l → keep (get_or m i d) ≡ false → Retained m j (i + 1)
+  retained_same m j i d h less k e =
+      let same = kept_same keep l i d (omega arith) (ap keep (sym (retained-get_or m j i d h k)) ∙ e) in
+      (omega arith, h.1 ∙ ap length (sym same), h.2 ∙ ap (λ (ks : List X). over ks l) (sym same))
+
+  pub retained_end : (m : List X) (j i : ℕ) → Retained m j i → n ≤ i → (j ≡ length (sifted keep (take n l))) × (m ≡ over (sifted keep (take n l)) l)
+  retained_end m j i h past =
+      let e : i ≡ n = omega (arith, h.0) in
+      (h.1 ∙ ap (λ (p : ℕ). length (kept keep l p)) e, h.2 ∙ ap (λ (p : ℕ). over (kept keep l p) l) e)
