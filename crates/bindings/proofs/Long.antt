@@ -15,9 +15,6 @@ use Rattle.records.specs.contracts.binding.GroupEntries.{the_type as the-entries
 use Rattle.records.specs.contracts.binding.BindGroup.{the_type as the-group}
 use Rattle.records.specs.contracts.state.ImmediateState.{the_type as the-immediates}
 
-long : {A B : Type 0} (f : A → B) (l : List A) (n : ℕ) → length (map f l) ≡ n → length l ≡ n
-long f l n e = sym (length-map l f) ∙ e
-
 pub groups-long : (s : PipelineLayout) (vs : List Val) → Is (row the-layout) s vs → length s.groups ≡ 8
 groups-long s vs g = g.1.1.0.1.0.1
 

@@ -13,7 +13,7 @@ use Rattle.pass.specs.Render.{places_of}
 
 -- field 2
 pub places-long : (d : RenderPassDescriptor) (vs : List Val) → Is (row the-descriptor) d vs → length d.color_attachments ≡ 8
-places-long d vs g = sym (length-map d.color_attachments _) ∙ g.1.1.1.1.0.1.0.1
+places-long d vs g = g.1.1.1.1.0.1.0.1
 
 pub places-few : (d : RenderPassDescriptor) (vs : List Val) → Is (row the-descriptor) d vs → length (places_of d) ≤ 8
 places-few d vs g = omega (arith, places-long d vs g, length-take d.color_attachment_count d.color_attachments)

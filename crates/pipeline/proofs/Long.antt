@@ -11,9 +11,6 @@ use Rattle.records.specs.declared.pipeline.RenderPipeline.{RenderPipeline}
 use Rattle.records.specs.contracts.pipeline.PipelineInner.{the_type as the-inner}
 use Rattle.records.specs.contracts.pipeline.RenderPipeline.{the_type as the-render}
 
-long : {A B : Type 0} (f : A → B) (l : List A) (n : ℕ) → length (map f l) ≡ n → length l ≡ n
-long f l n e = sym (length-map l f) ∙ e
-
 -- field 1
 pub map-long : (p : PipelineInner) (vs : List Val) → Is (row the-inner) p vs → length p.sampler_map ≡ 16
 map-long p vs g = g.1.1.1.0.1.0.1

@@ -15,9 +15,6 @@ use Rattle.records.specs.contracts.state.ImmediateState.{the_type as the-immedia
 use Rattle.records.specs.contracts.state.PassState.{the_type as the-pass}
 use Rattle.records.specs.contracts.state.VertexState.{the_type as the-vertex}
 
-pub long : {A B : Type 0} (f : A → B) (l : List A) (n : ℕ) → length (map f l) ≡ n → length l ≡ n
-long f l n e = sym (length-map l f) ∙ e
-
 -- field 4
 pub buffers-long : (s : VertexState) (vs : List Val) → Is (row the-vertex) s vs → length s.buffers ≡ 16
 buffers-long s vs g = g.1.1.1.1.1.1.0.1.0.1

@@ -46,9 +46,6 @@ pub told_is : {b d : Bool} {x y : Shown} → b ≡ d → x ≡ y → told b x �
 told_is {x = x} {y = y} p e = ap (λ c. told c x) p ∙ shown-is _ e
 
 -- ---- arrays
-long : {A B : Type 0} (f : A → B) (l : List A) (n : ℕ) → length (map f l) ≡ n → length l ≡ n
-long f l n e = sym (length-map l f) ∙ e
-
 -- field 1
 pub targets-long : (s : FixedState) (vs : List Val) → Is (row the_fixed) s vs → length s.color_targets ≡ 8
 targets-long s vs g = g.1.1.1.0.1.0.1
