@@ -1,6 +1,6 @@
 -- `lib.Ieee`'s `round`, and so `convert_to`, gives what `Nearest` describes (`round-nearest`, `convert-nearest`), and nothing else is that (`nearest-unique`, `nearest-is`). Assumes nothing.
 use Rattle.std.specs.Prelude.{◌≡◌, ℕ, zero, suc, ◌+◌, ◌-◌, ◌*◌, ◌/◌, ◌%◌, ◌^◌, ◌<◌, ◌≤◌, Bool, true, false, cond, not, ◌&&◌, T, ltb, ◌⊎◌, ℤ, pos, negsuc, ◌==◌, ◌≢◌, nat_eq, nat_le, nat_lt, to_bits, refl, Float}
-use Rattle.std.proofs.Common.{sym, ap, ap₂, ◌∙◌, subst, inl, inr, le_refl, le_trans, le_of_eq, le_of_lt, le_antisymm, lt_of_lt_of_le, lt_of_le_of_lt, not-le_of_lt, zero-lt-suc, eq-or-lt_of_le, mul-one, one-mul, zero-mul, suc-mul, add-mul, mul_assoc, mul_comm, mul_left_comm, mul_right_comm, mul-pos, mul-le-mul_right, mul-lt-mul_of_pos_right, le_of_mul-le-mul_right, lt_of_mul-lt-mul_right, mul-div_cancel, mod-lt, div-add-mod', le-div_iff_mul-le, pow-suc, arith, ltb→lt, nltb→le, leb→le, eqb→eq, lit<, pow-add, pow_pos, pow_mono, shl_lt}
+use Rattle.std.proofs.Common.{sym, ap, ap₂, ◌∙◌, subst, inl, inr, le_refl, le_trans, le_of_eq, le_of_lt, le_antisymm, lt_of_lt_of_le, lt_of_le_of_lt, zero-lt-suc, eq-or-lt_of_le, mul-one, one-mul, zero-mul, suc-mul, add-mul, mul_assoc, mul_comm, mul_left_comm, mul_right_comm, mul-pos, mul-le-mul_right, mul-lt-mul_of_pos_right, le_of_mul-le-mul_right, lt_of_mul-lt-mul_right, mul-div_cancel, mod-lt, div-add-mod', le-div_iff_mul-le, pow-suc, arith, ltb→lt, nltb→le, leb→le, eqb→eq, lit<, pow-add, pow_pos, pow_mono, shl_lt}
 use Rattle.std.specs.Bool.{beq}
 use Prim.Native.Nat.{compare, Ordering, zero-le}
 use Rattle.std.proofs.Math.Nat.{mul-sub, eq_of_mul-eq-mul_right, mul-mod_left, div-div-eq-div-mul}
