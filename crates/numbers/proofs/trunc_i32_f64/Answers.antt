@@ -3,7 +3,7 @@ use Rattle.std.proofs.Common.{◌≡◌, ℕ, false, ◌-◌, ◌^◌, ℤ, pos,
 use lib.Ieee.{Float, binary64, of_bits, neg, ne, le}
 use mir.ValLaws.{to_z-of_z}
 use Rattle.numbers.specs.Convert.{trunc_to, signed}
-use Rattle.numbers.specs.Agree.{clamped}
+use Rattle.numbers.proofs.Agree.{clamped}
 use Rattle.numbers.proofs.Clamp.{high, low, Inside, inside, asked, landed, in-signed, of_nan}
 use Rattle.numbers.proofs.trunc_i32_f64.Goals as goal
 

@@ -4,7 +4,7 @@ use lib.Signed.{non_neg}
 use lib.Ieee.{Float, binary64, of_bits, neg, ne, le}
 use mir.ValLaws.{to_z-of_z}
 use Rattle.numbers.specs.Convert.{trunc_to, unsigned}
-use Rattle.numbers.specs.Agree.{clamped}
+use Rattle.numbers.proofs.Agree.{clamped}
 use Rattle.numbers.proofs.Clamp.{high, low, Inside, inside, asked, landed, in-unsigned, of_nan}
 use Rattle.numbers.proofs.trunc_u32_f64.Goals as goal
 
