@@ -2,7 +2,7 @@
 -- Assumes nothing.
 use mathlib.Core.Path.{◌≡◌, refl, ◌∙◌, ap, ap₂, subst, sym}
 use mathlib.Core.List.{List, [], ◌∷◌, ◌++◌, append_assoc, append-nil}
-use Prim.Native.Nat.{ℕ, zero, suc, ◌-◌, ◌<◌, ◌≤◌}
+use Prim.Native.Nat.{ℕ, suc, ◌-◌, ◌<◌, ◌≤◌}
 use native.Mathlib.Omega.{arith}
 use lib.ListN.{length, take, drop, get_or, set, length-append, length-drop, take-append-drop, get_or-append}
 use lib.Seq.{take-suc, set_at, get_or-take, length-take-le, slice, slice_empty, slice-cons, length-slice}
@@ -75,8 +75,7 @@ module _ {A : Type 0} {X : Type 0} (g : A → ℕ → X → X) (f : A → ℕ �
 
   back-next : (b c : A) (m : List X) (i : ℕ) (d y : X) → Back b m (suc i) → n ≤ length l → c ≡ f b i (get_or m i d) → y ≡ g b i (get_or m i d) → Back c (set m i y) i
   back-next b c m i d y h k e e' =
-      let read : get_or m i d ≡ get_or l i d = ap (λ (r : List X). get_or r i d) h.2 ∙ changed-get_or i d h.0 k in
-      (
+      let read : get_or m i d ≡ get_or l i d = ap (λ (r : List X). get_or r i d) h.2 ∙ changed-get_or i d h.0 k in (
         omega (arith, h.0),
         e ∙ ap₂ (λ (z : A) (x : X). f z i x) h.1 read ∙ sym (value-next i d h.0 k),
         ap (λ (r : List X). set r i y) h.2 ∙ changed-next i d y h.0 k (e' ∙ ap₂ (λ (z : A) (x : X). g z i x) h.1 read),

@@ -68,8 +68,7 @@ module _ {A : Type 0} {X : Type 0} (g : A → ℕ → X → X) (f : A → ℕ �
         → On n c (set m i y) (i + 1)
     on-next n b c m i d y h less k e e' =
         let inside : i < length l = omega arith in
-        let read : get_or m i d ≡ get_or l i d = ap (λ (r : List X). get_or r i d) h.2 ∙ changed-get_or i d inside in
-        (
+        let read : get_or m i d ≡ get_or l i d = ap (λ (r : List X). get_or r i d) h.2 ∙ changed-get_or i d inside in (
           omega arith,
           e ∙ ap₂ (λ (z : A) (x : X). f z i x) h.1 read ∙ sym (value-next i d inside),
           ap (λ (r : List X). set r i y) h.2 ∙ changed-next i d y inside (e' ∙ ap₂ (λ (z : A) (x : X). g z i x) h.1 read),

@@ -102,8 +102,7 @@ module _ {X : Type 0} (keep : X → Bool) (l : List X) (n : ℕ) where
       let x = get_or l i d in
       let read = retained-get_or m j i d h k in
       let next = kept_more keep l i d inside (ap keep (sym read) ∙ e) in
-      let low : length (kept keep l i) < length l = omega (arith, kept-short keep l i (omega arith)) in
-      (
+      let low : length (kept keep l i) < length l = omega (arith, kept-short keep l i (omega arith)) in (
         omega arith,
         omega (arith, h.1, ap length next, length-append (kept keep l i) (x ∷ [])),
         ap (set m j) read ∙ ap₂ (λ (r : List X) (p : ℕ). set r p x) h.2 h.1 ∙ over-more l (kept keep l i) x low ∙ ap (λ (ks : List X). over ks l) (sym next),

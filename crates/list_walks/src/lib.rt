@@ -1,3 +1,2 @@
-// Functions that read and rewrite lent lists, as shapes: a shape is proved once, for every function
-// that has it.
+// Loops over lent lists: what contracts say of them, and lemmas for their turns.
 #![tactic(auto)]
