@@ -1,5 +1,5 @@
 // The arguments of `set_bind_group`.
-ghost use Rattle.std.specs.Prelude.{◌≤◌};
+ghost use Rattle.std.specs.Prelude.{◌≤◌, length};
 
 use crate::cursor::{Cursor, take, take_i32, take_u32};
 use crate::layout::{entries_of, take_layout};

@@ -1,5 +1,5 @@
 // The arguments of the pass beginnings.
-ghost use Rattle.std.specs.Prelude.{◌≤◌};
+ghost use Rattle.std.specs.Prelude.{◌≤◌, length};
 
 use crate::cursor::{Cursor, take_bool, take_u32};
 use crate::place::{take_depth_stencil, take_places};

@@ -59,15 +59,17 @@ hex-long (suc k) n = length-append (hex_in k (n / 16)) _ ∙ omega (arith, hex-l
 pub hex-step : (k n : ℕ) → 0 < k → hex_in k n ≡ hex_in (k - 1) (n / 16) ++ (hex_digit (n % 16) ∷ [])
 unfolding hex_in
 hex-step (suc k) n h = rw (sub-one (suc k))
+hex-step zero n h = elim h [ ]
 
 -- none left
 pub hex-none : (k n : ℕ) → k ≤ 0 → hex_in k n ≡ []
 unfolding hex_in
 hex-none zero n h = refl
+hex-none (suc _) n h = elim h [ ]
 
 -- a number of 32 bits with a sign is what the machine reads back from its bits
 pub by_bits : (z : ℤ) → mag z < 2147483648 → z ≡ to_z w32 (of_z w32 z)
-by_bits z h = sym (to_z-of_z (record { sfits = h }))
+by_bits z h = sym (to_z-of_z {w = w32} (record { sfits = h }))
 
 -- the digits of such a number by its bits n: below 2 ^ 31 they are the number, and from there on 2 ^ 32 minus its size
 abbrev Signed : ℤ → ℕ → Type 0

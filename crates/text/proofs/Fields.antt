@@ -1,5 +1,5 @@
 -- Laws of the fields of a line: how long they are, and how a row of fields ends. Assumes nothing.
-use Prim.Native.Nat.{ℕ, zero, suc, ◌+◌, ◌-◌, ◌*◌, ◌≤◌, ◌<◌}
+use Prim.Native.Nat.{ℕ, zero, suc, ◌-◌, ◌*◌, ◌≤◌, ◌<◌}
 use native.Mathlib.Omega.{arith}
 use mathlib.Core.Path.{◌≡◌, refl, sym, ap, ◌∙◌}
 use mathlib.Core.List.{List, [], ◌∷◌, ◌++◌, append_assoc, append-nil, map}
@@ -100,3 +100,4 @@ spaced-step f l k d p h =
 pub spaced-none : {A : Type 0} (f : A → Field) (l : List A) (k : ℕ) → k ≤ 0 → spaced (map f (take k l)) ≡ []
 unfolding spaced
 spaced-none f l zero h = refl
+spaced-none {A = A} f l (suc _) h = elim h [ ]
