@@ -1,6 +1,5 @@
 pub mod Judged
 pub mod Limit
-pub mod Data
 pub mod Plans
 pub mod Listed
 pub mod Moved
