@@ -1,5 +1,5 @@
 -- Prices along an order, as the code sums them; the elements of an order. Assumes nothing.
-use Prim.Native.Nat.{ℕ, zero, suc, ◌+◌, ◌-◌, ◌/◌, ◌%◌, ◌≤◌, ◌<◌, min}
+use Prim.Native.Nat.{ℕ, zero, suc, ◌+◌, ◌-◌, ◌≤◌, ◌<◌, min}
 use mathlib.Core.Path.{◌≡◌, refl, sym, ap, ◌∙◌, subst}
 use mathlib.Core.Bool.{Bool, true, false}
 use mathlib.Core.List.{List, [], ◌∷◌, ◌++◌}
@@ -15,7 +15,7 @@ use Rattle.cheaper.specs.Budget.{first-order}
 use Rattle.cheaper.specs.Count.{orders-long, orders-at}
 use Rattle.cheaper.specs.Prices.{along, total, tried}
 use Rattle.cheaper.specs.Same.{All, all-order}
-use Rattle.cheaper.specs.Search.{removed, order_at}
+use Rattle.cheaper.specs.Search.{order_at}
 
 -- one step back
 pub total-step : (d : ℕ → ℕ → ℕ) (l : List ℕ) (j : ℕ) → suc j < length l → total d (drop j l) ≡ d (get_or l j 0) (get_or l (suc j) 0) + total d (drop (suc j) l)
@@ -65,11 +65,6 @@ all_append b (x ∷ l) r h k = (h.0, all_append b l r h.1 k)
 pub padded-low : (n i q : ℕ) → n ≤ 8 → i < factorial n → get_or (order_at n (given n) i ++ replicate (8 - n) 0) q 0 < 8
 padded-low n i q h l = all-at 8 (order_at n (given n) i ++ replicate (8 - n) 0) q (omega arith)
     (all_append 8 (order_at n (given n) i) (replicate (8 - n) 0) (all-order 8 n (order_at n (given n) i) h (order-in n i l)) (all-zeros 8 (8 - n) (omega arith)))
-
-pub order-long : (n : ℕ) (xs : List ℕ) (i : ℕ) → length (order_at n xs i) ≡ n
-unfolding order_at
-order-long zero xs i = refl
-order-long (suc n) xs i = ap suc (order-long n (removed (i / factorial n) xs) (i % factorial n))
 
 -- ---- the loop over the orders
 -- the orders that are left begin with order number i

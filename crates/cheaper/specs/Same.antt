@@ -32,6 +32,7 @@ all-arranged b (suc n) xs o h m =
     let q = map_cases (λ (o : List ℕ). r.0.one ∷ o) (arranged n r.0.rest) o r.2 in
     let k = all-pick b xs r.0 h r.1 in
     subst (All b) (sym q.2) (k.0, all-arranged b n r.0.rest q.0 k.1 q.1)
+all-arranged b zero xs o h (inr x3) = elim x3 [ ]
 
 -- every place of an order is a place
 pub all-order : (b n : ℕ) (o : List ℕ) → n ≤ b → In o (orders n) → All b o
@@ -45,6 +46,7 @@ arranged-places (suc n) xs o m =
     let r = each-cases (λ (p : Pick). map (λ (o : List ℕ). p.one ∷ o) (arranged n p.rest)) (picks xs) o m in
     let q = map_cases (λ (o : List ℕ). r.0.one ∷ o) (arranged n r.0.rest) o r.2 in
     ap length q.2 ∙ ap suc (arranged-places n r.0.rest q.0 q.1)
+arranged-places zero xs o (inr x'') = elim x'' [ ]
 
 pub order-places : (n : ℕ) (o : List ℕ) → In o (orders n) → length o ≡ n
 order-places n o m = arranged-places n (given n) o m

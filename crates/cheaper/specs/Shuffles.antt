@@ -105,6 +105,7 @@ arranged-count (suc n) xs o l m k =
   where
     less : (a b : ℕ) → suc a ≡ suc b → a ≡ b
     less a b e = omega arith
+arranged-count zero [] o l (inr x5) k = elim x5 [ ]
 
 pub arranged-all : (n : ℕ) (xs o : List ℕ) → length xs ≡ n → ((k : ℕ) → count k o ≡ count k xs) → In o (arranged n xs)
 unfolding arranged count

@@ -3,7 +3,7 @@
 // `u32` read as an `i32`, that `f32` truncated to a `u32`, and the bits of the `f32` once more, read back from its bits.
 #![tactic(auto)]
 
-use libc::STDOUT_FILENO;
+use std::io;
 
 mod rows;
 
@@ -12,7 +12,7 @@ fn digit(n: u32) -> u8 {
     if d < 10 { 48 + d } else { 87 + d }
 }
 
-fn word(n: u32) {
+fn word(rt: &impl Print, n: u32) -> io::Result<()> {
     let line = [
         digit(n >> 28),
         digit(n >> 24),
@@ -23,30 +23,34 @@ fn word(n: u32) {
         digit(n >> 4),
         digit(n),
     ];
-    io::write_all(STDOUT_FILENO, &line);
+    rt.write_all(&line)
 }
 
-fn row(b: u64) {
+fn row(rt: &impl Print, b: u64) -> io::Result<()> {
     let x = numbers::of_bits64(b);
     let y = numbers::to_f32(x);
-    word(numbers::bits32(y));
-    io::write_all(STDOUT_FILENO, b" ");
-    word(numbers::as_u32(numbers::trunc_i32_f64(x)));
-    io::write_all(STDOUT_FILENO, b" ");
-    word(numbers::trunc_u32_f64(x));
-    io::write_all(STDOUT_FILENO, b" ");
-    word(numbers::as_u32(numbers::trunc_i32(y)));
-    io::write_all(STDOUT_FILENO, b" ");
-    word(numbers::as_u32(numbers::as_i32(numbers::trunc_u32_f64(x))));
-    io::write_all(STDOUT_FILENO, b" ");
-    word(numbers::trunc_u32(y));
-    io::write_all(STDOUT_FILENO, b" ");
-    word(numbers::bits32(numbers::of_bits32(numbers::bits32(y))));
-    io::write_all(STDOUT_FILENO, b"\n");
+    word(rt, numbers::bits32(y))?;
+    rt.write_all(b" ")?;
+    word(rt, numbers::as_u32(numbers::trunc_i32_f64(x)))?;
+    rt.write_all(b" ")?;
+    word(rt, numbers::trunc_u32_f64(x))?;
+    rt.write_all(b" ")?;
+    word(rt, numbers::as_u32(numbers::trunc_i32(y)))?;
+    rt.write_all(b" ")?;
+    word(
+        rt,
+        numbers::as_u32(numbers::as_i32(numbers::trunc_u32_f64(x))),
+    )?;
+    rt.write_all(b" ")?;
+    word(rt, numbers::trunc_u32(y))?;
+    rt.write_all(b" ")?;
+    word(rt, numbers::bits32(numbers::of_bits32(numbers::bits32(y))))?;
+    rt.write_all(b"\n")
 }
 
-fn main() {
+fn main(rt: HostRuntime) -> io::Result<()> {
     for i in 0..301 {
-        row(rows::ROWS[i]);
+        row(&rt, rows::ROWS[i])?;
     }
+    Ok(())
 }

@@ -1,12 +1,11 @@
 -- `cheaper::search::seek` meets its contract: x is the cheapest so far: with the orders that are left it gives the cheapest of all. Assumes nothing.
-use Prim.Native.Nat.{ℕ, suc, ◌+◌, ◌-◌, ◌*◌, ◌≤◌}
+use Prim.Native.Nat.{ℕ, suc, ◌+◌, ◌-◌, ◌*◌}
 use mathlib.Core.Path.{◌≡◌, refl, sym, ap, ap₂, ◌∙◌}
 use mathlib.Core.Bool.{Bool, true, false, cond}
 use mathlib.Core.List.{List, ◌∷◌, ◌++◌}
 use native.Mathlib.Omega.{arith}
 use native.Mathlib.Numerals.{add-one}
 use lib.ListN.{get_or}
-use borrow.Author.Rules.{rules}
 use lib.Dec.{ltb}
 use lib.ListN.{take, drop, replicate}
 use Rattle.cheaper.specs.Orders.{given, orders}
@@ -15,15 +14,7 @@ use Rattle.cheaper.specs.Prices.{total, cheapest}
 use Rattle.cheaper.specs.declared.search.Tried.{Tried}
 use Rattle.cheaper.specs.Search.{order_at, sought}
 use Rattle.cheaper.proofs.Totals.{left-begins, left-none, first-is}
-use Rattle.cheaper.proofs.search.seek.Statement.{statement}
-use Rattle.cheaper.proofs.search.seek.Tie as tie
-
-abbrev invariant-loop : tie.invariant-loop
-invariant-loop between n turns best₀ i₀ best i = (1 ≤ i) × (i ≤ turns) × ((x : List ℕ) × (best.order ≡ x ++ replicate (8 - n) 0) ×
-    (best.price ≡ total (λ a b. get_or between (a * 8 + b) 0) x) × (cheapest (total (λ a b. get_or between (a * 8 + b) 0)) x (drop i (take turns (orders n))) ≡ sought between n turns))
-
-abbrev decreases-loop : tie.decreases-loop
-decreases-loop between n turns best₀ i₀ best i = turns - i
+use Rattle.cheaper.proofs.search.seek.Goals as goal
 
 -- the better of two, and what is left
 chose : (f : List ℕ → ℕ) (n : ℕ) (x y g : List ℕ) (ys : List (List ℕ)) (a b r : Tried) → a.order ≡ x ++ replicate (8 - n) 0 → a.price ≡ f x → b.order ≡ y ++ replicate (8 - n) 0 → b.price ≡ f y
@@ -36,69 +27,37 @@ chose f n x y g ys a b r ao ap' bo bp e h = go (ltb b.price a.price) e (ap₂ lt
     go true e q h = (y, ap (λ (t : Tried). t.order) e ∙ bo, ap (λ (t : Tried). t.price) e ∙ bp, ap (λ (t : Bool). cheapest f (cond t y x) ys) q ∙ h)
     go false e q h = (x, ap (λ (t : Tried). t.order) e ∙ ao, ap (λ (t : Tried). t.price) e ∙ ap', ap (λ (t : Bool). cheapest f (cond t y x) ys) q ∙ h)
 
-tried-at-requires : tie.Need-tried-at-requires invariant-loop decreases-loop
-tried-at-requires c κs = (c.requires.0, factorial-pos c.args.n, c.requires.3)
-
-loop-holds : tie.Need-loop-init invariant-loop decreases-loop
-loop-holds c =
-    let a = c.before.args in
+pub loop-i-init : goal.loop-i-init
+loop-i-init c =
+    let a = c.args in
     let f : List ℕ → ℕ = total (λ x y. get_or a.between (x * 8 + y) 0) in
     let e = first-is a.n (factorial-pos a.n) in (
       omega arith,
       omega arith,
-      (given a.n, c.tried-at.ensures.0 ∙ ap (λ (o : List ℕ). o ++ replicate (8 - a.n) 0) e, c.tried-at.ensures.1 ∙ ap f e, refl),
+      (given a.n, c.tried_at-best.ensures.0 ∙ ap (λ (o : List ℕ). o ++ replicate (8 - a.n) 0) e, c.tried_at-best.ensures.1 ∙ ap f e, refl),
     )
 
-tried-at-requires-2 : tie.Need-tried-at-requires-2 invariant-loop decreases-loop
-tried-at-requires-2 c κs = let a = c.before.before.before in (a.requires.0, omega arith, a.requires.3)
-
-better-requires : tie.Need-better-requires invariant-loop decreases-loop
-better-requires c κs = search rules
-
-add-i : tie.Need-overflow-add-i invariant-loop decreases-loop
-add-i c = omega arith
-
-loop-less : tie.Need-loop-smaller invariant-loop decreases-loop
-loop-less c = omega arith
-
-loop-again : tie.Need-loop-preserved invariant-loop decreases-loop
-loop-again c =
-    let l = c.before.before.before.loop in
-    let s = c.before.before.before.before.before in
-    let a = s.args in
+pub loop-i-preserved : goal.loop-i-preserved
+loop-i-preserved c =
+    let l = c.loop-i in
+    let a = c.args in
     let f : List ℕ → ℕ = total (λ x y. get_or a.between (x * 8 + y) 0) in
     let d = l.invariant.2 in
     let y = order_at a.n (given a.n) l.i in
     let g = sought a.between a.n a.turns in
-    let r = chose f a.n d.0 y g (drop (suc l.i) (take a.turns (orders a.n))) l.best c.before.tried-at2.result c.better.result d.1 d.2
-    c.before.tried-at2.ensures.0 c.before.tried-at2.ensures.1 c.better.ensures
-    (ap (cheapest f d.0) (sym (left-begins a.n a.turns l.i c.before.before.loop-test.true s.requires.2)) ∙ d.3) in
+    let r = chose f a.n d.0 y g (drop (suc l.i) (take a.turns (orders a.n))) l.best c.tried_at-next.result c.better-best.result d.1 d.2
+    c.tried_at-next.ensures.0 c.tried_at-next.ensures.1 c.better-best.ensures
+    (ap (cheapest f d.0) (sym (left-begins a.n a.turns l.i c.loop-i-test.true c.requires.2)) ∙ d.3) in
     (omega arith, omega arith, (r.0, r.1, r.2, ap (λ (k : ℕ). cheapest f r.0 (drop k (take a.turns (orders a.n)))) (add-one l.i) ∙ r.3))
 
-returns : tie.Need-returns invariant-loop decreases-loop
+pub returns : goal.returns
 unfolding cheapest
 returns c =
-    let l = c.before.loop in
-    let s = c.before.before.before in
-    let a = s.args in
+    let l = c.loop-i in
+    let a = c.args in
     let f : List ℕ → ℕ = total (λ x y. get_or a.between (x * 8 + y) 0) in
     let d = l.invariant.2 in
     let z : a.turns ≡ l.i = omega arith in
     let e : d.0 ≡ sought a.between a.n a.turns = ap (cheapest f d.0)
-    (sym (ap (λ (k : ℕ). drop k (take a.turns (orders a.n))) (sym z) ∙ left-none a.n a.turns s.requires.2)) ∙ d.3 in
+    (sym (ap (λ (k : ℕ). drop k (take a.turns (orders a.n))) (sym z) ∙ left-none a.n a.turns c.requires.2)) ∙ d.3 in
     (d.1 ∙ ap (λ (o : List ℕ). o ++ replicate (8 - a.n) 0) e, d.2 ∙ ap f e)
-
-pub seek-spec : {M : Type 1} → statement M
-seek-spec =
-    tie.close
-    (tie.spec
-    invariant-loop
-    decreases-loop
-    tried-at-requires
-    loop-holds
-    tried-at-requires-2
-    better-requires
-    add-i
-    loop-less
-    loop-again
-    returns)

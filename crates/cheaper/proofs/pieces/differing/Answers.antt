@@ -1,0 +1,20 @@
+-- `cheaper::pieces::differing` meets its contract: the sum so far is that of the things gone through. Assumes nothing.
+use Prim.Native.Nat.{ℕ, ◌+◌}
+use mathlib.Core.Path.{refl, ap₂, ◌∙◌}
+use native.Mathlib.Omega.{arith}
+use native.Mathlib.Numerals.{add-one}
+use Rattle.cheaper.specs.Prices.{sum_to, differs}
+use Rattle.cheaper.proofs.pieces.differing.Goals as goal
+
+pub loop-t-init : goal.loop-t-init
+unfolding sum_to
+loop-t-init c = (omega arith, refl, omega arith)
+
+pub loop-t-preserved : goal.loop-t-preserved
+unfolding sum_to
+loop-t-preserved c =
+    let l = c.loop-t in (
+      omega arith,
+      rw add-one (ap₂ (λ (x y : ℕ). x + y) l.invariant.1 (c.differ-sum.ensures.0 ∙ ap₂ differs c.thing.ensures c.thing-in-loop-t.ensures)),
+      omega arith,
+    )
