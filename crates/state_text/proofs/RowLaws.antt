@@ -1,13 +1,12 @@
 -- Laws of the state's rows: what is shown of a place, where a place is, and how long the arrays are. Assumes nothing.
-use Prim.Native.Nat.{ℕ, zero, suc, zero-le, ◌+◌, ◌-◌, ◌≤◌, ◌<◌}
-use native.Mathlib.Decide.{ℕ_discrete}
+use Prim.Native.Nat.{ℕ, zero, suc, ◌+◌, ◌-◌, ◌≤◌, ◌<◌}
 use native.Mathlib.Omega.{arith}
 use native.Mathlib.Nat.{le_of_suc-le-suc, not-suc-le-zero, add-zero, zero-add}
 use mathlib.Core.Path.{◌≡◌, refl, sym, ap, ◌∙◌, subst}
 use mathlib.Core.Bool.{Bool, true, false, cond}
 use mathlib.Core.List.{List, [], ◌∷◌, ◌++◌, map}
 use lib.Dec.{T, ltb, lit<}
-use lib.ListN.{length, take, drop, get_or, length-map}
+use lib.ListN.{length, take, drop, get_or}
 use lib.Seq.{drop-cons}
 use mir.Val.{Val}
 use denote.Laws.{Is}
@@ -46,20 +45,17 @@ pub told_is : {b d : Bool} {x y : Shown} → b ≡ d → x ≡ y → told b x �
 told_is {x = x} {y = y} p e = ap (λ c. told c x) p ∙ shown-is _ e
 
 -- ---- arrays
-long : {A B : Type 0} (f : A → B) (l : List A) (n : ℕ) → length (map f l) ≡ n → length l ≡ n
-long f l n e = sym (length-map l f) ∙ e
-
 -- field 1
 pub targets-long : (s : FixedState) (vs : List Val) → Is (row the_fixed) s vs → length s.color_targets ≡ 8
-targets-long s vs g = long _ s.color_targets 8 g.1.1.1.0.1.0.1
+targets-long s vs g = g.1.1.1.0.1.0.1
 
 -- field 2
 pub words_long : (s : ImmediateState) (vs : List Val) → Is (row the-immediates) s vs → length s.words ≡ 64
-words_long s vs g = long _ s.words 64 g.1.1.1.1.0.1.0.1
+words_long s vs g = g.1.1.1.1.0.1.0.1
 
 -- field 5
 pub instances-long : (s : VertexState) (vs : List Val) → Is (row the-vertex) s vs → length s.instances ≡ 16
-instances-long s vs g = long _ s.instances 16 g.1.1.1.1.1.1.1.0.1.0.1
+instances-long s vs g = g.1.1.1.1.1.1.1.0.1.0.1
 
 -- within a list the default is of no account
 pub within : {A : Type 0} (l : List A) (i : ℕ) (d e : A) → i < length l → get_or l i d ≡ get_or l i e
@@ -92,23 +88,6 @@ tells r i n e w h m =
 
 pub at_row : (s : State) (i : ℕ) {row r : ℕ} {t : Told} → row ≡ r → TellsRow (row_at s r) i t → TellsRow (row_at s row) i t
 at_row s i {t = t} e h = subst (λ x. TellsRow (row_at s x) i t) (sym e) h
-
--- nothing is shown past the rows
-pub tells_none : (i : ℕ) {t : Told} → t ≡ told_of false 49 [] → TellsRow no_row i t
-tells_none i e = record { named = rw e (lit< tt); within = rw e zero-le; line = ap told_line e }
-
--- not one of the first n
-abbrev pub Rest : ℕ → ℕ → Type 0
-Rest zero x = Unit {0}
-Rest (suc n) x = Rest n x × (x ≡ n → ⊥)
-
-pub past : (n x : ℕ) → Rest n x → n ≤ x
-past zero x r = zero-le
-past (suc n) x r = step (past n x r.0) (ℕ_discrete x n)
-  where
-    step : n ≤ x → Dec (x ≡ n) → suc n ≤ x
-    step h (yes e) = absurd (r.1 e)
-    step h (no ne) = omega arith
 
 blend-short : (b : OptionBlend) → length (blend_fields b) < 14
 blend-short None = lit< tt
