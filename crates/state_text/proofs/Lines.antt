@@ -3,12 +3,10 @@ use Prim.Native.Nat.{ℕ, zero, suc, ◌+◌, ◌≤◌}
 use native.Mathlib.Decide.{ℕ_discrete}
 use native.Mathlib.Omega.{arith}
 use native.Mathlib.Nat.{le_refl}
-use mathlib.Core.Path.{◌≡◌, refl, sym, ap, ◌∙◌, subst}
+use mathlib.Core.Path.{◌≡◌, refl, sym, ap, ◌∙◌}
 use mathlib.Core.List.{List, [], ◌++◌, append_assoc}
 use lib.ListN.{length, take, drop, length-append}
 use lib.Seq.{paste-zero, length-paste, take-paste, drop-paste, drop-drop, take-length}
-use Rattle.text.specs.declared.Wrote.{Wrote}
-use Rattle.text.specs.declared.Wrote.TheVariants.{Next, NoRoom}
 use Rattle.state_text.specs.State.{lines_to}
 use Rattle.text.specs.Wrote.{laid}
 
@@ -62,18 +60,3 @@ start at f = omega arith
 pub laid-start : (o : List ℕ) (at : ℕ) (f : ℕ → List ℕ) → o ≡ laid o at (lines_to 0 f)
 unfolding lines_to
 laid-start o at f = paste-zero o at []
-
--- ---- what is answered
-abbrev next_of : Wrote → ℕ
-next_of (Next i) = i
-next_of NoRoom = 0
-
-pub next-is : {i j : ℕ} → Next i ≡ Next j → i ≡ j
-next-is e = ap next_of e
-
-abbrev Fits : Wrote → Type 0
-Fits (Next i) = Unit {0}
-Fits NoRoom = ⊥
-
-pub next-some : {i : ℕ} → Next i ≡ NoRoom → ⊥
-next-some e = subst Fits e tt

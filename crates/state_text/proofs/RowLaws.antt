@@ -1,13 +1,12 @@
 -- Laws of the state's rows: what is shown of a place, where a place is, and how long the arrays are. Assumes nothing.
-use Prim.Native.Nat.{ℕ, zero, suc, zero-le, ◌+◌, ◌-◌, ◌≤◌, ◌<◌}
-use native.Mathlib.Decide.{ℕ_discrete}
+use Prim.Native.Nat.{ℕ, zero, suc, ◌+◌, ◌-◌, ◌≤◌, ◌<◌}
 use native.Mathlib.Omega.{arith}
 use native.Mathlib.Nat.{le_of_suc-le-suc, not-suc-le-zero, add-zero, zero-add}
 use mathlib.Core.Path.{◌≡◌, refl, sym, ap, ◌∙◌, subst}
 use mathlib.Core.Bool.{Bool, true, false, cond}
 use mathlib.Core.List.{List, [], ◌∷◌, ◌++◌, map}
 use lib.Dec.{T, ltb, lit<}
-use lib.ListN.{length, take, drop, get_or, length-map}
+use lib.ListN.{length, take, drop, get_or}
 use lib.Seq.{drop-cons}
 use mir.Val.{Val}
 use denote.Laws.{Is}
@@ -89,23 +88,6 @@ tells r i n e w h m =
 
 pub at_row : (s : State) (i : ℕ) {row r : ℕ} {t : Told} → row ≡ r → TellsRow (row_at s r) i t → TellsRow (row_at s row) i t
 at_row s i {t = t} e h = subst (λ x. TellsRow (row_at s x) i t) (sym e) h
-
--- nothing is shown past the rows
-pub tells_none : (i : ℕ) {t : Told} → t ≡ told_of false 49 [] → TellsRow no_row i t
-tells_none i e = record { named = rw e (lit< tt); within = rw e zero-le; line = ap told_line e }
-
--- not one of the first n
-abbrev pub Rest : ℕ → ℕ → Type 0
-Rest zero x = Unit {0}
-Rest (suc n) x = Rest n x × (x ≡ n → ⊥)
-
-pub past : (n x : ℕ) → Rest n x → n ≤ x
-past zero x r = zero-le
-past (suc n) x r = step (past n x r.0) (ℕ_discrete x n)
-  where
-    step : n ≤ x → Dec (x ≡ n) → suc n ≤ x
-    step h (yes e) = absurd (r.1 e)
-    step h (no ne) = omega arith
 
 blend-short : (b : OptionBlend) → length (blend_fields b) < 14
 blend-short None = lit< tt
