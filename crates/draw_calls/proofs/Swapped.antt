@@ -1,24 +1,20 @@
 -- A draw whose own commands differ only where it is refused by condition 6 is the same draw. Assumes nothing.
-use Prim.Native.Nat.{ℕ, ◌+◌, ◌<◌}
-use mathlib.Core.Bool.{Bool, true, false, cond, ◌||◌}
-use mathlib.Core.List.{List, [], ◌++◌}
+use Prim.Native.Nat.{ℕ, ◌+◌}
+use mathlib.Core.Bool.{Bool, true, false, ◌||◌}
+use mathlib.Core.List.{List, ◌++◌}
 use mathlib.Core.Path.{◌≡◌, refl, sym, ap, ◌∙◌, subst}
 use native.Mathlib.Omega.{arith}
-use lib.ListN.{length, length-append, get_or}
-use Rattle.records.specs.Outcome.{accepted, smallest, either}
-use Rattle.records.specs.Check.{state_conditions}
+use lib.ListN.{length, length-append}
+use Rattle.records.specs.Outcome.{accepted}
 use Rattle.records.specs.declared.command.Command.{Command}
-use Rattle.records.specs.declared.command.Command.TheVariants.{PopDebugGroup}
-use Rattle.records.specs.declared.outcome.Outcome.{Outcome}
 use Rattle.records.specs.declared.pipeline.PrivateCapabilities.{PrivateCapabilities}
 use Rattle.records.specs.declared.state.State.{State}
 use Rattle.slots.specs.Prepare.{prepared, prepared_over}
 use Rattle.draw_calls.specs.declared.drawn.DrawPlan.{DrawPlan}
-use Rattle.draw_calls.specs.Drawn.{DrawOf, drawn_at}
-use Rattle.calls.specs.Judge.{taken}
+use Rattle.draw_calls.specs.Drawn.{DrawOf}
 use Rattle.calls.specs.Meaning.{Meaning}
-use Rattle.calls.specs.Planned.{list_rooms, Laid, outcome_in, state_in}
-use Rattle.calls.specs.Step.{drawing, outcome_of, call_conditions}
+use Rattle.calls.specs.Planned.{outcome_in}
+use Rattle.calls.specs.Step.{drawing, outcome_of}
 use Rattle.calls.proofs.Judged.{bad, none-holds}
 
 or-true : (t : Bool) → t || true ≡ true

@@ -1,11 +1,10 @@
 -- A plan of a draw: what is prepared, and then its own commands. Definitions only.
-use Rattle.std.specs.Prelude.{ℕ, ◌+◌, ◌*◌, ◌-◌, ◌<◌, ◌^◌, ◌≡◌, Bool, true, false, ◌&&◌, List, [], ◌∷◌, ◌++◌, ltb, leb, length, get_or}
+use Rattle.std.specs.Prelude.{ℕ, ◌+◌, ◌*◌, ◌<◌, ◌^◌, ◌≡◌, Bool, false, List, [], ◌∷◌, ◌++◌, length, get_or}
 use Rattle.tables.specs.Tabulate.{tabulate}
 use Rattle.records.specs.declared.command.Command.{Command}
 use Rattle.records.specs.declared.command.Command.TheVariants.{DrawIndirect, DrawIndexedIndirect, PopDebugGroup}
 use Rattle.records.specs.declared.state.Answer.{Answer}
 use Rattle.records.specs.declared.state.State.{State}
-use Rattle.records.specs.declared.state.VertexState.{VertexState}
 use Rattle.slots.specs.Vertex.{stepped}
 use Rattle.slots.specs.Prepare.{prepared, prepared_over}
 use Rattle.slots.specs.Sent.{prepared_places}
