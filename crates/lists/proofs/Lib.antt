@@ -1,5 +1,3 @@
-pub mod Data
-pub mod Lent
 pub mod Kept
 pub mod Played
 pub mod Laws

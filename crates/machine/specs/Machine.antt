@@ -1,6 +1,6 @@
 -- The GL machine: document 01, "The command list": "On a fresh machine nothing is bound ...". "A setting command overwrites the thing it names, other commands nothing". Definitions only.
 -- It knows commands and OpenGL ES, and nothing of the recorder.
-use Rattle.std.specs.Prelude.{ℕ, ◌+◌, Bool, true, false, cond, not, ◌&&◌, ◌||◌, List, [], ◌∷◌, ◌++◌, eqb, ltb, pos}
+use Rattle.std.specs.Prelude.{ℕ, Bool, true, false, cond, not, ◌&&◌, ◌||◌, List, [], ◌∷◌, ◌++◌, eqb, ltb, pos}
 use Rattle.std.proofs.Math.Option.{Option, none, some}
 use Rattle.std.specs.Float.{binary32}
 use Rattle.std.specs.Float.Ieee.{of_bits}
