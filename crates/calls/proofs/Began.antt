@@ -15,7 +15,7 @@ use Rattle.records.specs.declared.state.State.{State}
 use Rattle.pass.specs.Marks.{Lent, Label}
 use Rattle.pass.specs.Render.{places_of, begin_with, begin_render_commands}
 use Rattle.pass.specs.Counted.{counted_clears, is_empty, clears_to}
-use Rattle.pass.specs.Renumbered.{begin-same, begin-renumbered}
+use Rattle.pass.proofs.Renumbered.{begin-same, begin-renumbered}
 use Rattle.calls.specs.Call.{begin_render_pass}
 use Rattle.calls.specs.Did.{Runs, written, record_of, Did}
 

@@ -3,3 +3,4 @@ pub mod Gathered
 pub mod Counts
 pub mod Beginning
 pub mod Ending
+pub mod Renumbered

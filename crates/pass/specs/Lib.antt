@@ -4,7 +4,6 @@ pub mod Places
 pub mod Gather
 pub mod Survey
 pub mod Counted
-pub mod Renumbered
 pub mod Resolves
 pub mod Plan
 pub mod End
