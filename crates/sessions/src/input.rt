@@ -1,9 +1,9 @@
-// Lines of standard input, through a buffer.
+// Lines of what a reader gives, through a buffer. A read that fails is the end of the input.
 ghost use Rattle.std.specs.Prelude.{◌≡◌, ◌≤◌, ◌<◌, length};
 ghost use Rattle.sessions.specs.Reading.{no_line, next_number, line_number};
 
-use libc::STDIN_FILENO;
 use records::check::within;
+use std::io::Read;
 
 // More turns than a loop that ends needs.
 pub const MAX_TURNS: usize = 18446744073709551615;
@@ -36,13 +36,12 @@ pub fn new_input() -> Input
 }
 
 // The next part of the input, where the buffer is read.
-fn fill(buffer: &mut [u8], input: Input) -> Input {
+fn fill<R: Read>(reader: &mut R, buffer: &mut [u8], input: Input) -> Input {
     let mut next = input;
     if input.start < input.end {
         return next;
     }
-    let got = libc::read(STDIN_FILENO, buffer);
-    let n = io::count(got, buffer);
+    let n = reader.read(buffer).unwrap_or(0);
     next.start = 0;
     next.end = n;
     next.over = n == 0;
@@ -99,8 +98,8 @@ pub fn line_number(input: Input) -> u64
     counted(input.number)
 }
 
-fn step(buffer: &mut [u8], line: &mut [u8], input: Input) -> Input {
-    let filled = fill(buffer, input);
+fn step<R: Read>(reader: &mut R, buffer: &mut [u8], line: &mut [u8], input: Input) -> Input {
+    let filled = fill(reader, buffer, input);
     if filled.over {
         return filled;
     }
@@ -141,13 +140,13 @@ pub fn turns_left(turns: usize, done: bool) -> usize
 }
 
 // The next line, without its end.
-pub fn next_line(buffer: &mut [u8], line: &mut [u8], input: Input) -> Input
+pub fn next_line<R: Read>(reader: &mut R, buffer: &mut [u8], line: &mut [u8], input: Input) -> Input
     ensures { result.length ≤ length line.old }
 {
     let mut next = begun(input);
     let mut turns = turns_left(MAX_TURNS, next.over);
     while 0 < turns {
-        next = step(buffer, line, next);
+        next = step(reader, buffer, line, next);
         turns = turns_left(turns, next.there | next.over);
     }
     ended(next, line.len())

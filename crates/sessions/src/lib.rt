@@ -1,4 +1,4 @@
-// Reading sessions in the flat form: lines of standard input, a session's first line, and whether a
+// Reading sessions in the flat form: lines of a reader's bytes, a session's first line, and whether a
 // line is right.
 #![tactic(auto)]
 

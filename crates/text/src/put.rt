@@ -59,7 +59,7 @@ fn put(line: &mut [u8], at: usize, byte: u8) -> usize
 }
 
 // The digits to the base ten, the last first.
-fn put_decimal(line: &mut [u8], at: usize, n: u64) -> usize
+pub fn put_decimal(line: &mut [u8], at: usize, n: u64) -> usize
     requires { (20 ≤ at) × (at ≤ length line.old) }
     ensures { Put (decimal n) line.old at line.new result }
 {
