@@ -1,6 +1,6 @@
 -- `binding_calls::sending::work_out` meets its contract. Assumes nothing.
-use Prim.Native.Nat.{ℕ, ◌+◌, ◌/◌, ◌%◌, ◌≤◌, min}
-use mathlib.Core.Bool.{Bool, false, not}
+use Prim.Native.Nat.{ℕ, ◌+◌, ◌/◌, ◌%◌, ◌≤◌}
+use mathlib.Core.Bool.{false, not}
 use mathlib.Core.List.{List}
 use mathlib.Core.Path.{◌≡◌, sym, ap, ap₂, ◌∙◌, subst}
 use native.Mathlib.Omega.{arith}
@@ -18,9 +18,7 @@ use Rattle.bindings.specs.Or.{neither}
 use Rattle.bindings.specs.Shared.{filter-good}
 use Rattle.bindings.specs.Placed.{places_of, size_of, bytes-size}
 use Rattle.bindings.proofs.Long.{words_long}
-use borrow.Author.Rules.{rules}
-use Rattle.binding_calls.proofs.sending.work_out.Statement.{statement}
-use Rattle.binding_calls.proofs.sending.work_out.Tie as tie
+use Rattle.binding_calls.proofs.sending.work_out.Goals as goal
 
 few_words : (offset count : ℕ) → immediates_out_of_range offset count ≡ false → count ≤ 65
 few_words offset count e =
@@ -31,53 +29,25 @@ few_words offset count e =
 counted-whole : (l : List ImmediateDesc) (n : ℕ) → length l ≡ 192 → n ≤ 192 → length (take n l) ≡ n
 counted-whole l n e h = length-take-le n l (subst (λ (k : ℕ). n ≤ k) (sym e) h)
 
-immediates-after-requires : tie.Need-immediates-after-requires
-immediates-after-requires c κs = search rules
-
-within-requires : tie.Need-within-requires
-within-requires c κs = search rules
-
-within-requires-2 : tie.Need-within-requires-2
-within-requires-2 c κs = search rules
-
-cast-end : tie.Need-overflow-cast-end
-cast-end c = search rules
-
-add-end : tie.Need-overflow-add-end
-add-end c = search rules
-
-picked-requires : tie.Need-picked-requires
-picked-requires c κs = search rules
-
-cast-place-descriptors : tie.Need-overflow-cast-place-descriptors
-cast-place-descriptors c = search rules
-
-place-descriptors-requires : tie.Need-place-descriptors-requires
-place-descriptors-requires c κs = search rules
-
-cast-size : tie.Need-overflow-cast-size
-cast-size c = search rules
-
-returns : tie.Need-returns
+pub returns : goal.returns
 returns c =
-    let placed = c.before.before.place-descriptors in
-    let pick = c.before.before.before.picked in
-    let words = c.before.before.before.before.within2 in
-    let first = c.before.before.before.before.before.within in
-    let after = c.before.before.before.before.before.before.immediates-after in
-    let st = c.before.before.before.before.before.before.before.before in
-    let a = st.args in
+    let placed = c.place_descriptors-placed in
+    let pick = c.picked-state in
+    let words = c.within in
+    let first = c.within-first in
+    let after = c.immediates_after-after in
+    let a = c.args in
     let i = a.i in
     let ds = sent_descriptors i a.offset a.count in
     let limit : first.result ≤ 65536 = omega (arith, first.ensures) in
-    let old : length i.words ≡ 64 = words_long i _ st.well-formed.1.1.0 in
+    let old : length i.words ≡ 64 = words_long i _ c.well_formed.1.1.0 in
     let sent : immediates_out_of_range a.offset a.count ≡ false → descriptors_of pick.result ≡ ds =
     λ range. pick.ensures.0
     ∙ ap (λ (n : ℕ). filter (sends i.sent (a.offset / 4) (a.offset / 4 + n)) (descriptors_of i)) (words.ensures ∙ min-eq_left (few_words a.offset a.count range)) in
     let sound : immediates_out_of_range a.offset a.count ≡ false → some? bad_descriptor (descriptors_of i) ≡ false → some? bad_descriptor (descriptors_of pick.result) ≡ false =
     λ range good. ap (some? bad_descriptor) (sent range) ∙ filter-good (sends i.sent (a.offset / 4) (a.offset / 4 + a.count)) (descriptors_of i) good in
     record {
-      many = λ range. sym (sym (ap length (sent range)) ∙ counted-whole pick.result.descs pick.result.count (descs-long pick.result _ pick.type-inv) pick.ensures.1);
+      many = λ range. sym (sym (ap length (sent range)) ∙ counted-whole pick.result.descs pick.result.count (descs-long pick.result _ pick.type_inv) pick.ensures.1);
       few = pick.ensures.1;
       small = placed.ensures.0;
       sized =
@@ -95,22 +65,7 @@ returns c =
             words = ap (λ (x : ImmediateState). x.words) e;
             places = ap (λ (l : List ImmediateDesc). take (length l) placed.result.at) (sym (sent range)) ∙ p.0 ∙ ap₂ places_of (sent range) same;
             size =
-                p.1 new (sym (ap (λ (x : ImmediateState). length x.words) e) ∙ words_long after.result _ after.type-inv)
+                p.1 new (sym (ap (λ (x : ImmediateState). length x.words) e) ∙ words_long after.result _ after.type_inv)
                 ∙ ap (λ (l : List ImmediateDesc). length (immediate_bytes new l)) (sent range);
           };
     }
-
-pub work-out-spec : {M : Type 1} → statement M
-work-out-spec =
-    tie.close
-    (tie.spec
-    immediates-after-requires
-    within-requires
-    within-requires-2
-    cast-end
-    add-end
-    picked-requires
-    cast-place-descriptors
-    place-descriptors-requires
-    cast-size
-    returns)

@@ -18,71 +18,28 @@ use Rattle.calls.specs.Step.{set_bind_group_meaning, outcome_of}
 use Rattle.calls.proofs.Judged.{fitting, no-sum}
 use Rattle.calls.proofs.Plans.{found, laid, next, some_written}
 use Rattle.binding_calls.proofs.GroupMoved.{bind-moved}
-use borrow.Author.Rules.{rules}
-use Rattle.binding_calls.proofs.groups.plan_set_bind_group.Statement.{statement}
-use Rattle.binding_calls.proofs.groups.plan_set_bind_group.Tie as tie
+use Rattle.binding_calls.proofs.groups.plan_set_bind_group.Goals as goal
 
 part-fits : (used n k : ℕ) → used + n ≤ k → n ≤ k
 part-fits used n k h = omega arith
 
-sweep-entries-requires : tie.Need-sweep-entries-requires
-sweep-entries-requires c κs = search rules
-
-dirty-units-requires : tie.Need-dirty-units-requires
-dirty-units-requires c κs = search rules
-
-cast-n : tie.Need-overflow-cast-n
-cast-n c = search rules
-
-sampler-count-requires : tie.Need-sampler-count-requires
-sampler-count-requires c κs = search rules
-
-add-n : tie.Need-overflow-add-n
-add-n c = search rules
-
-over-run-requires : tie.Need-over-run-requires
-over-run-requires c κs = search rules
-
-group-asks-requires : tie.Need-group-asks-requires
-group-asks-requires c κs = search rules
-
-list-rooms-requires : tie.Need-list-rooms-requires
-list-rooms-requires c κs = search rules
-
-commands-only-requires : tie.Need-commands-only-requires
-commands-only-requires c κs = search rules
-
-broken-limits-requires : tie.Need-broken-limits-requires
-broken-limits-requires c κs = search rules
-
-judge-requires : tie.Need-judge-requires
-judge-requires c κs = search rules
-
-spot-of-requires : tie.Need-spot-of-requires
-spot-of-requires c κs = search rules
-
-taken-bind-requires : tie.Need-taken-bind-requires
-taken-bind-requires c κs = search rules
-
-returns : tie.Need-returns
+pub returns : goal.returns
 unfolding outcome_of
 returns c =
-    let v = c.before.before in
-    let e = v.before.before.before.before.before.before in
-    let a = e.before.before.before.before.before.before.before.before.before.args in
+    let a = c.args in
     let s = a.s in
     let phase = s.progress.phase in
     let os : List ℕ = take a.count a.offsets.now in
     let xs : List Entry = entries_of a.layout a.index a.entries a.group in
-    let sweep = e.before.before.before.before.before.sweep-entries in
+    let sweep = c.sweep_entries-sweep in
     let swept = sweep.ensures in
-    let dirty = e.before.before.before.dirty-units in
+    let dirty = c.dirty_units-units in
     let new : BindState = group_state xs s.bind in
     let units : ℕ = dirty_units new (textures_named xs) (samplers_named xs) in
     let gs : List Command = group_commands xs os in
     let cs : List Command = gs ++ sampler_commands new units in
     let named : dirty.result ≡ units = rw (swept.2, swept.3, swept.4) at dirty.ensures in
-    let more : e.before.sampler-count.result ≡ length (sampler_commands new units) = e.before.sampler-count.ensures.0 new ∙ ap (λ (u : ℕ). length (sampler_commands new u)) named in
+    let more : c.sampler_count.result ≡ length (sampler_commands new units) = c.sampler_count.ensures.0 new ∙ ap (λ (u : ℕ). length (sampler_commands new u)) named in
     let all : gs ++ sampler_commands sweep.result.bind dirty.result ≡ cs = rw (swept.2, named) in
     let m : Meaning = set_bind_group_meaning s a.layout a.index a.entries a.group (record { run = a.offsets.now; count = a.count }) in
     let asks : Conditions =
@@ -95,9 +52,9 @@ returns c =
       sum = m.asks.sum;
       room = m.asks.room;
     } in
-    let k = found a.room s asks phase cs _ _ _ _ _ v.before.before.before.before.list-rooms.ensures v.before.before.broken-limits.ensures (rw (swept.0, more) (sym (length-append gs (sampler_commands new units)))) v.before.before.before.commands-only.ensures
-    (rw (v.before.before.before.before.before.group-asks.ensures, swept.1, swept.5, swept.6, swept.7, e.over-run.ensures) at v.before.judge.ensures) v.spot_of_lem.ensures in
-    let after = bind-moved _ _ new _ s _ _ c.taken-bind.ensures swept.2 k.sure in (
+    let k = found a.room s asks phase cs _ _ _ _ _ c.list_rooms-rooms.ensures c.broken_limits-broken.ensures (rw (swept.0, more) (sym (length-append gs (sampler_commands new units)))) c.commands_only-more.ensures
+    (rw (c.group_asks-c.ensures, swept.1, swept.5, swept.6, swept.7, c.over_run-short.ensures) at c.judge-v.ensures) c.spot_of-place.ensures in
+    let after = bind-moved _ _ new _ s _ _ c.taken_bind-after.ensures swept.2 k.sure in (
       (k.said, next a.room s asks phase cs k (with_bind new s) _ after),
       laid a.room s asks phase cs _ _ _ k.here k.many (λ h i l. ap (λ (x : List Command). get_or x i PopDebugGroup) all),
       λ i h.
@@ -107,22 +64,3 @@ returns c =
             record { first = swept.0; offsets_fit = no-sum (list_rooms a.room) s asks phase (commands_only (length cs)) w.0; few = rw all few },
           ),
     )
-
-pub plan-set-bind-group-spec : {M : Type 1} → statement M
-plan-set-bind-group-spec =
-    tie.close
-    (tie.spec
-    sweep-entries-requires
-    dirty-units-requires
-    cast-n
-    sampler-count-requires
-    add-n
-    over-run-requires
-    group-asks-requires
-    list-rooms-requires
-    commands-only-requires
-    broken-limits-requires
-    judge-requires
-    spot-of-requires
-    taken-bind-requires
-    returns)
