@@ -1,5 +1,5 @@
--- Plans of bind groups: one that is right fits, and written it is the call. Assumes nothing.
-use Prim.Native.Nat.{ℕ, ◌+◌, ◌<◌, ◌≤◌}
+-- Plans of bind groups: one that is right, written, is the call. Assumes nothing.
+use Prim.Native.Nat.{ℕ}
 use mathlib.Core.List.{List, []}
 use mathlib.Core.Path.{◌≡◌}
 use lib.ListN.{length}
@@ -11,16 +11,11 @@ use Rattle.records.specs.declared.state.Answer.{Answer}
 use Rattle.records.specs.declared.state.State.{State}
 use Rattle.calls.specs.Call.{Call}
 use Rattle.calls.specs.Did.{Lists, record_of}
-use Rattle.calls.specs.Meaning.{Meaning}
 use Rattle.calls.specs.Planned.{list_rooms}
 use Rattle.calls.specs.Step.{meaning}
 use Rattle.calls.proofs.Listed.{lists-done}
 use Rattle.binding_calls.specs.declared.grouped.GroupPlan.{GroupPlan}
-use Rattle.binding_calls.specs.Grouped.{GroupAllowed, GroupOf, grouped_at, group_next, group_answer}
-
--- a plan that is right fits
-pub group-fits : (run : List ℕ) (room : ℕ) (s : State) (m : Meaning) (p : GroupPlan) → GroupOf run room s m p → (p.batch.at + p.batch.n ≤ room) × ((i : ℕ) → i < p.batch.n → GroupAllowed run p.batch i)
-group-fits run room s m p h = (h.1.fits, h.2)
+use Rattle.binding_calls.specs.Grouped.{GroupOf, grouped_at, group_next, group_answer}
 
 -- a call that is handed the list alone
 module _ (caps : PrivateCapabilities) (s : State) (c : Call) (alone : (r : Rooms) → (meaning caps s c).handed r ≡ list_rooms r.commands) (no_bytes : (meaning caps s c).bytes ≡ []) (no-queries : (meaning caps s c).queries ≡ []) (run : List ℕ) where

@@ -1,4 +1,4 @@
-use Rattle.std.proofs.Common.{◌<◌, ◌+◌, ◌*◌, ◌∙◌, refl, arith}
+use Rattle.std.proofs.Common.{◌∙◌, refl, arith}
 use Rattle.walks.proofs.Fronts.{front_none, front-more}
 use Rattle.binding_calls.proofs.ImmediateBytes.{turn, turn-in, turn-word, turn-byte, turn-more, turn-past}
 use Rattle.binding_calls.proofs.sending.write_bytes.Goals as goal

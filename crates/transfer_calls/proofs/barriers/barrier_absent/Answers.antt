@@ -1,4 +1,4 @@
--- `transfer_calls::barriers::barrier_absent` meets its contract. Invariant: `bad` says whether a counted barrier from `left` on is so. Measure: `left`. Assumes nothing.
+-- `transfer_calls::barriers::barrier_absent` meets its contract. Assumes nothing.
 use mathlib.Core.Path.{◌≡◌}
 use native.Mathlib.Omega.{arith}
 use Rattle.records.specs.Check.{some?}

@@ -1,4 +1,4 @@
--- `transfer_calls::barriers::barrier_count` meets its contract. Invariant: `n` of the counted barriers from `left` on are recorded. Measure: `left`. Assumes nothing.
+-- `transfer_calls::barriers::barrier_count` meets its contract. Assumes nothing.
 use mathlib.Core.Path.{◌≡◌}
 use native.Mathlib.Omega.{arith}
 use Rattle.calls.specs.Transfers.{buffer_barrier_commands}

@@ -1,4 +1,4 @@
--- `transfer_calls::barriers::barrier_place` meets its contract. Invariant: the command looked for is number `left` of those of the barriers from `j` on. Measure: what is left of the run. Assumes nothing.
+-- `transfer_calls::barriers::barrier_place` meets its contract. Assumes nothing.
 use mathlib.Core.Path.{refl, sym, ◌∙◌}
 use native.Mathlib.Omega.{arith}
 use Rattle.records.specs.declared.command.Command.TheVariants.{PopDebugGroup}

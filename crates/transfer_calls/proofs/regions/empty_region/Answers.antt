@@ -1,4 +1,4 @@
--- `transfer_calls::regions::empty_region` meets its contract. Invariant: `bad` says whether a counted region from `left` on is so. Measure: `left`. Assumes nothing.
+-- `transfer_calls::regions::empty_region` meets its contract. Assumes nothing.
 use mathlib.Core.Path.{◌≡◌}
 use native.Mathlib.Omega.{arith}
 use Rattle.records.specs.Check.{some?}
