@@ -7,7 +7,6 @@ use mathlib.Core.Logic.{◌⊎◌, inl, inr}
 use lib.ListN.{length, take, length-append}
 use lib.Seq.{take-length}
 use Rattle.records.specs.Start.{start_progress}
-use Rattle.records.specs.Outcome.{accepted}
 use Rattle.records.specs.declared.check.Rooms.{Rooms}
 use Rattle.records.specs.declared.command.Command.{Command}
 use Rattle.records.specs.declared.pipeline.PrivateCapabilities.{PrivateCapabilities}

@@ -6,7 +6,7 @@ use mathlib.Core.List.{List, [], ◌∷◌, ◌++◌, map}
 use mathlib.Core.Option.{Option, none, some}
 use native.Mathlib.Omega.{arith}
 use lib.Dec.{eqb}
-use lib.ListN.{length, set, length-set}
+use lib.ListN.{length, length-set}
 use borrow.Author.Tests.{eqb-true}
 use Rattle.tables.specs.Tabulate.{long as long-table, upd}
 use Rattle.mask.specs.Mask.{test_bit, places}
@@ -25,12 +25,12 @@ use Rattle.records.specs.declared.state.State.{State}
 use Rattle.records.specs.declared.state.VertexSlot.{VertexSlot}
 use Rattle.records.specs.declared.state.VertexState.{VertexState}
 use Rattle.slots.specs.Vertex.{step_of, slot_at, desc_at, binding_at, instance_at, attributes_of}
-use Rattle.slots.specs.Prepare.{instance_offset, sent}
+use Rattle.slots.specs.Prepare.{instance_offset}
 use Rattle.bindings.specs.Units.{sampler_commands}
 use Rattle.pipeline.specs.Inner.{inner_bind, inner_commands, inner_immediates, inner_out_of_range, changed_units}
 use Rattle.pipeline.specs.Vertex.{pipe_desc, attributes_in, has, described_slot, pipeline_vertex, set_attribute, unset_attribute, vertex_commands, vertex_out_of_range, vertex_absent, vertex_twice}
 use Rattle.pipeline.specs.Fixed.{fixed_commands, pipeline_fixed}
-use Rattle.calls.specs.Parts.{with_progress, with_vertex, with_draw, with_fixed, with_bind, with_immediates, with_location, with_topology, drawn}
+use Rattle.calls.specs.Parts.{with_progress, with_vertex, with_draw, with_fixed, with_bind, with_immediates, with_location, with_topology}
 use Rattle.calls.specs.Settings.{bound_slot}
 use Rattle.machine.specs.Each.{Each}
 use Rattle.machine.proofs.Lists.{or_left, or_right, set_at}
