@@ -40,15 +40,15 @@ def arguments():
 
 
 def program(given, native, folder):
-    """`cheaper_draws`: the one that is given, or target/bin's, or built natively."""
+    """`cheaper_draws`: the one that is given, or the proved one, or built natively."""
     if native and not given:
         made = os.path.join(folder, "cheaper_draws")
         if subprocess.run([sys.executable, os.path.join(HERE, "native", "build.py"), "cheaper_draws", made]).returncode:
             sys.exit(2)
         return made
-    path = given or os.path.join(os.path.dirname(HERE), "target", "bin", "cheaper_draws")
+    path = given or os.path.join(os.path.dirname(HERE), "crates", "cheaper_draws", "out", "cheaper_draws")
     if not os.access(path, os.X_OK):
-        stop(f"no program {path}: rt check cheaper_draws makes it, --native builds it unproved")
+        stop(f"no program {path}: rt run in crates/cheaper_draws makes it, --native builds it unproved")
     return os.path.abspath(path)
 
 

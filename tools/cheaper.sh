@@ -9,7 +9,7 @@
 # Printed: lines, refusals, lines by what is found, and the time of a question of 8 pieces with all 40,320 orders, of the program and of the Rust: the
 # difference between N such questions and the same with a budget of 1, divided by N; the least of three.
 #   --questions N   questions that are timed: 500 if not given
-#   --program PATH  `cheaper_draws`: target/bin/cheaper_draws if not given (rt check cheaper_draws)
+#   --program PATH  `cheaper_draws`: crates/cheaper_draws/out/cheaper_draws if not given (rt run in crates/cheaper_draws)
 #   --native        the program built natively and unproved (tools/native/build.py)
 # It needs a Rust compiler, without packages.
 set -eu

@@ -30,7 +30,7 @@ def arguments():
     parser.add_argument("--slider", action="store_true")
     parser.add_argument("--calls", type=int)
     which = parser.add_mutually_exclusive_group()
-    which.add_argument("--program", default=os.path.join(os.path.dirname(HERE), "target", "bin", "script"))
+    which.add_argument("--program", default=os.path.join(os.path.dirname(HERE), "crates", "script", "out", "script"))
     which.add_argument("--native", action="store_true")
     which.add_argument("--harness", action="store_true")
     args = parser.parse_args()
@@ -43,7 +43,7 @@ def build(args, folder):
     """The program that is compared with the Rust."""
     if not (args.native or args.harness):
         if not os.access(args.program, os.X_OK):
-            stop(f"no program {args.program}: rt check script makes it, --native builds it unproved")
+            stop(f"no program {args.program}: rt run in crates/script makes it, --native builds it unproved")
         return os.path.abspath(args.program)
     program = os.path.join(folder, "program")
     what = ["script", program] if args.native else ["harness", program, "--source", os.path.join(HERE, "harness")]

@@ -13,7 +13,7 @@
 #   --slider        sessions with many set_immediates and pipelines with several descriptors over few words, for request 6; none has to be equal to
 #                   the published Rust or to differ by request 5
 #   --calls N       calls of a session: 60 if not given
-#   --program PATH  the program: target/bin/script if not given (rt check script)
+#   --program PATH  the program: crates/script/out/script if not given (rt run in crates/script)
 #   --native        the program `script` built natively and unproved (tools/native/build.py)
 #   --harness       the 31 public calls over lent runs, built natively and unproved (tools/harness)
 # Odd seeds have refused calls; every 16 pairs of seeds have each set of flags once; sessions are whole, cut inside a pass, or have

@@ -39,9 +39,9 @@ def library(args, folder):
     made = os.path.join(folder, "script")
     if args.native and subprocess.run([sys.executable, os.path.join(HERE, "native", "build.py"), "script", made]).returncode:
         sys.exit(2)
-    path = made if args.native else args.program or os.path.join(HERE, "..", "target", "bin", "script")
+    path = made if args.native else args.program or os.path.join(os.path.dirname(HERE), "crates", "script", "out", "script")
     if not os.access(path, os.X_OK):
-        stop(f"no program {path}: rt check script makes it, or --native")
+        stop(f"no program {path}: rt run in crates/script makes it, or --native")
     return path
 
 

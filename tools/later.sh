@@ -6,7 +6,7 @@
 # which shares no code with either: each draw of the pass must find the same in both lists, as far as the request says, and the fetches that the calls of the pass name.
 # Pairs in which a call is refused are left out. Exit 1 on a difference, with the seed; also if more than half of the seeds are left out.
 #   --break         one of the four things is left out of the pass; exit 1 if there is one whose pairs all find the same
-#   --program PATH  the program `script`: target/bin/script if not given (rt check script)
+#   --program PATH  the program `script`: crates/script/out/script if not given (rt run in crates/script)
 #   --native        the program `script` built natively and unproved (tools/native/build.py)
 # It needs a Rust compiler with the packages that tools/oracle/README.md names.
 set -eu

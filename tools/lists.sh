@@ -16,9 +16,9 @@
 #                       viewport, scissor, vertex buffer, sampler, index buffer or depth bias setting that a later setting of the same thing supersedes
 #                       (request 7), in the printed form; then `---` and three lines: how many settings went, by kind, and the commands and the settings of
 #                       the seven kinds, before and after; or `refused N`
-#   --program PATH      the program: target/bin/span_masks, target/bin/list_names if not given (rt check NAME); with compare and trim one that
+#   --program PATH      the program: crates/NAME/out/NAME if not given (rt run in crates/NAME), NAME span_masks or list_names; with compare and trim one that
 #                       tools/boards/build.sh or tools/trim/build.sh made: if not given it is built, natively and unproved, into a temporary folder
-#   --script PATH       with names, the program that records: target/bin/script if not given (rt check script)
+#   --script PATH       with names, the program that records: crates/script/out/script if not given (rt run in crates/script)
 # A holds one session, B too. Exit 2: wrong use, or no program. Exit 1: a number that is none, a file that cannot be read, not one session, with compare
 # and trim not one list, or a wrong line, whose number in its file is named. Then nothing is printed but the message, on standard error.
 set -eu
@@ -37,12 +37,12 @@ usage() {
     exit 2
 }
 
-# The path of the program NAME of the project, $1: $2, or target/bin/NAME where that is empty.
+# The path of the program NAME of the project, $1: $2, or crates/NAME/out/NAME where that is empty.
 find_program() {
     found=$2
     if [ -z "$found" ]; then
-        found=$here/../target/bin/$1
-        [ -x "$found" ] || { echo "lists.sh: no target/bin/$1: rt check $1 makes it" >&2; exit 2; }
+        found=$here/../crates/$1/out/$1
+        [ -x "$found" ] || { echo "lists.sh: no crates/$1/out/$1: rt run in crates/$1 makes it" >&2; exit 2; }
     fi
     case $found in */*) ;; *) found=./$found ;; esac
     { [ -f "$found" ] && [ -x "$found" ]; } || { echo "lists.sh: no program $found" >&2; exit 2; }

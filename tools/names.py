@@ -42,15 +42,15 @@ def arguments():
 
 
 def program(name, given, native, folder):
-    """A program: the one that is given, or target/bin's, or built natively."""
+    """A program: the one that is given, or the proved one, or built natively."""
     if native and not given:
         made = os.path.join(folder, name)
         if subprocess.run([sys.executable, os.path.join(HERE, "native", "build.py"), name, made]).returncode:
             sys.exit(2)
         return made
-    path = given or os.path.join(os.path.dirname(HERE), "target", "bin", name)
+    path = given or os.path.join(os.path.dirname(HERE), "crates", name, "out", name)
     if not os.access(path, os.X_OK):
-        stop(f"no program {path}: rt check {name} makes it, --native builds it unproved")
+        stop(f"no program {path}: rt run in crates/{name} makes it, --native builds it unproved")
     return os.path.abspath(path)
 
 

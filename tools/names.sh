@@ -8,8 +8,8 @@
 # Printed: sessions, lists, lines by command, names shown by map, numbers left bare by map.
 #   --calls N       calls of a session: 60 if not given
 #   --lines N       random lines: 200000 if not given
-#   --script PATH   `script`: target/bin/script if not given (rt check script)
-#   --program PATH  `list_names`: target/bin/list_names if not given (rt check list_names)
+#   --script PATH   `script`: crates/script/out/script if not given (rt run in crates/script)
+#   --program PATH  `list_names`: crates/list_names/out/list_names if not given (rt run in crates/list_names)
 #   --native        those of the two that are not given, built natively and unproved (tools/native/build.py)
 # It needs a Rust compiler with the packages that tools/oracle/README.md names.
 set -eu

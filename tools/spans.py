@@ -27,7 +27,7 @@ def arguments():
     parser.add_argument("end", metavar="TO", type=int)
     parser.add_argument("--calls", type=int, default=60)
     which = parser.add_mutually_exclusive_group()
-    which.add_argument("--program", default=os.path.join(os.path.dirname(HERE), "target", "bin", "span_masks"))
+    which.add_argument("--program", default=os.path.join(os.path.dirname(HERE), "crates", "span_masks", "out", "span_masks"))
     which.add_argument("--native", action="store_true")
     args = parser.parse_args()
     if not 0 <= args.first < args.end:
@@ -39,7 +39,7 @@ def build(args, folder):
     """The program that is compared with the Rust."""
     if not args.native:
         if not os.access(args.program, os.X_OK):
-            stop(f"no program {args.program}: rt check span_masks makes it, --native builds it unproved")
+            stop(f"no program {args.program}: rt run in crates/span_masks makes it, --native builds it unproved")
         return os.path.abspath(args.program)
     program = os.path.join(folder, "program")
     if subprocess.run([sys.executable, os.path.join(HERE, "native", "build.py"), "span_masks", program]).returncode:

@@ -7,7 +7,7 @@
 # spans without such a draw and give the others up, and span_model.py, which works the masks out from the calls, must have the same for all.
 # Exit 1 too if fewer than a quarter of the spans have two different masks, none is reversed, or none has full instancing.
 #   --calls N       calls of a session before it is cut: 60 if not given
-#   --program PATH  the program: target/bin/span_masks if not given (rt check span_masks)
+#   --program PATH  the program: crates/span_masks/out/span_masks if not given (rt run in crates/span_masks)
 #   --native        the program span_masks built natively and unproved (tools/native/build.py)
 # It needs a Rust compiler with the packages that tools/oracle/README.md names.
 set -eu

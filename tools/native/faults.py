@@ -14,7 +14,7 @@ ROOT = os.path.dirname(os.path.dirname(os.path.dirname(os.path.abspath(__file__)
 def copy_with(fault, folder):
     """The sources with the fault, below folder."""
     for name in ("crates", "tools"):
-        shutil.copytree(os.path.join(ROOT, name), os.path.join(folder, name), ignore=shutil.ignore_patterns("target", "proofs", "upstream"))
+        shutil.copytree(os.path.join(ROOT, name), os.path.join(folder, name), ignore=shutil.ignore_patterns("target", "out", "proofs", "upstream"))
     shutil.copy(os.path.join(ROOT, "crates.txt"), folder)
     file, old, new = fault
     path = os.path.join(folder, "crates", file)
