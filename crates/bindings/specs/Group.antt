@@ -1,5 +1,5 @@
 -- `set_bind_group`: document 01, "Bindings and immediates". Definitions only.
-use Rattle.std.specs.Prelude.{ℕ, zero, suc, ◌+◌, ◌^◌, ◌-◌, Bool, true, false, cond, not, ◌&&◌, ◌||◌, List, [], ◌∷◌, ◌++◌, ℤ, pos, ◌+ℤ◌, ltb, leb, eqb, get_or, take, set, length}
+use Rattle.std.specs.Prelude.{ℕ, ◌+◌, ◌^◌, ◌-◌, Bool, true, false, cond, not, ◌&&◌, ◌||◌, List, [], ◌∷◌, ◌++◌, ℤ, pos, ◌+ℤ◌, ltb, leb, eqb, get_or, take, set}
 use Rattle.std.specs.Int.Signed.{lt_z}
 use Rattle.mask.specs.Mask.{set_bit, digit_of}
 use Rattle.mask.specs.By.{mask_by}
@@ -20,7 +20,6 @@ use Rattle.records.specs.declared.binding.RawBinding.TheVariants as content
 use Rattle.records.specs.declared.binding.Content.{Content}
 use Rattle.records.specs.declared.binding.BindGroup.{BindGroup}
 use Rattle.records.specs.declared.state.BindState.{BindState}
-use Rattle.records.specs.declared.state.TextureSlotDesc.{TextureSlotDesc}
 use Rattle.bindings.specs.Units.{unit_at, sampler_commands, dirty_units}
 
 -- a layout entry and what the bind group has for it

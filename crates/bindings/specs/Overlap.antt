@@ -1,6 +1,6 @@
 -- The Rust's overlap test of `set_immediates` is always true, so every descriptor is sent. Assumes nothing.
-use Rattle.std.specs.Prelude.{ℕ, ◌+◌, ◌/◌, ◌≤◌, ◌<◌, ◌≡◌, refl, Bool, true, false, ◌||◌, ltb, leb}
-use Rattle.std.proofs.Common.{◌∙◌, arith, ltb-false, le-leb}
+use Rattle.std.specs.Prelude.{ℕ, ◌+◌, ◌/◌, ◌≤◌, ◌≡◌, refl, Bool, true, false, ◌||◌, ltb, leb}
+use Rattle.std.proofs.Common.{arith, ltb-false, le-leb}
 use Rattle.records.specs.declared.command.ImmediateDesc.{ImmediateDesc}
 use Rattle.bindings.specs.Immediates.{overlaps}
 

@@ -1,5 +1,5 @@
 -- Samplers by number, and the texture units that take them: `rebind_sampler_states` of gles/command.rs. Definitions only.
-use Rattle.std.specs.Prelude.{ℕ, Bool, true, false, cond, ◌||◌, List, map, get_or}
+use Rattle.std.specs.Prelude.{ℕ, Bool, false, cond, ◌||◌, List, map, get_or}
 use Rattle.mask.specs.Mask.{test_bit, places}
 use Rattle.mask.specs.By.{mask_by}
 use Rattle.records.specs.Start.{start_texture_slot}

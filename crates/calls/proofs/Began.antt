@@ -1,5 +1,4 @@
 -- What `begin_render_pass` leaves in the list, beside what the Rust's rule gives: document 02, request 1. Assumes nothing.
-use Prim.Native.Nat.{ℕ}
 use mathlib.Core.Path.{◌≡◌, sym, ap, ◌∙◌}
 use mathlib.Core.Bool.{Bool, false, cond}
 use mathlib.Core.List.{List, [], map}

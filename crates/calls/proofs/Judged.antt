@@ -5,7 +5,7 @@ use mathlib.Core.Path.{◌≡◌, refl, sym, ap, ◌∙◌}
 use native.Mathlib.Omega.{arith}
 use lib.Dec.{ltb}
 use borrow.Author.Tests.{ltb-false}
-use Rattle.records.specs.Outcome.{accepted, smallest, either}
+use Rattle.records.specs.Outcome.{accepted, smallest}
 use Rattle.records.specs.Check.{over_room, broken_limits, state_conditions}
 use Rattle.records.specs.declared.check.Broken.{Broken}
 use Rattle.records.specs.declared.check.Rooms.{Rooms}
@@ -15,7 +15,7 @@ use Rattle.records.specs.declared.state.Phase.{Phase}
 use Rattle.records.specs.declared.state.Progress.{Progress}
 use Rattle.records.specs.declared.state.State.{State}
 use Rattle.calls.specs.declared.judge.Counts.{Counts}
-use Rattle.calls.specs.Judge.{grown, asked, judged, judged_by, taken}
+use Rattle.calls.specs.Judge.{grown, judged, judged_by, taken}
 
 pub bad : {X : Type 0} → false ≡ true → X
 bad e = let z : ◌≡◌ {A = ℕ} 0 1 = cc in absurd (omega arith)

@@ -1,5 +1,5 @@
 -- The draw commands. Definitions only.
-use Rattle.std.specs.Prelude.{ℕ, zero, suc, ◌+◌, ◌*◌, ◌-◌, ◌^◌, Bool, true, false, not, ◌&&◌, List, ltb, leb, eqb, ℤ}
+use Rattle.std.specs.Prelude.{ℕ, ◌+◌, ◌*◌, ◌-◌, ◌^◌, Bool, ◌&&◌, List, ltb, leb, eqb, ℤ}
 use Rattle.tables.specs.Tabulate.{tabulate}
 use Rattle.names.specs.Gl.{GL_UNSIGNED_SHORT, GL_UNSIGNED_INT}
 use Rattle.records.specs.declared.command.Command.{Command}

@@ -1,5 +1,5 @@
 -- Settings of one command: index and vertex buffer, viewport, scissor, stencil reference, blend constants. Definitions only.
-use Rattle.std.specs.Prelude.{ℕ, Bool, true, false, set, Float}
+use Rattle.std.specs.Prelude.{ℕ, set}
 use Rattle.mask.specs.Mask.{set_bit}
 use Rattle.numbers.specs.Convert.{signed, twos, trunc_to}
 use Rattle.names.specs.declared.gl.StencilSide.{StencilSide}

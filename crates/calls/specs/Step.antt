@@ -1,5 +1,5 @@
 -- What each of the 31 calls means, and `step`: document 01, demand 1. Definitions only.
-use Rattle.std.specs.Prelude.{ℕ, ◌+◌, Bool, true, false, cond, not, ◌&&◌, ◌||◌, List, [], ◌∷◌, ◌++◌, map, ltb, leb, eqb, length, get_or, take, ℤ}
+use Rattle.std.specs.Prelude.{ℕ, ◌+◌, Bool, false, cond, not, ◌&&◌, ◌||◌, List, [], ◌∷◌, ◌++◌, map, ltb, leb, eqb, length, get_or, take, ℤ}
 use Rattle.names.specs.Maps.{primitive_topology}
 use Rattle.records.specs.Start.{start_state}
 use Rattle.records.specs.Outcome.{accepted, either, smallest}
@@ -24,7 +24,6 @@ use Rattle.records.specs.declared.pipeline.PrivateCapabilities.{PrivateCapabilit
 use Rattle.records.specs.declared.pipeline.RenderPipeline.{RenderPipeline}
 use Rattle.records.specs.declared.pipeline.ComputePipeline.{ComputePipeline}
 use Rattle.records.specs.declared.state.IndexFormat.{IndexFormat}
-use Rattle.records.specs.declared.state.Phase.{Phase}
 use Rattle.records.specs.declared.state.Phase.TheVariants.{Closed, Open, Render, Compute}
 use Rattle.records.specs.declared.state.Progress.{Progress}
 use Rattle.records.specs.declared.state.State.{State}
@@ -40,7 +39,7 @@ use Rattle.pass.specs.Render.{begin_render_commands, begin_render_pass_state, pa
 use Rattle.calls.specs.Call.{QuerySet, Call, begin_encoding, end_encoding, begin_render_pass, end_render_pass, begin_compute_pass, end_compute_pass, transition_buffers, transition_textures, clear_buffer, copy_buffer_to_buffer, copy_query_results, begin_query, end_query, write_timestamp, reset_queries, set_bind_group, set_immediates, set_render_pipeline, set_compute_pipeline, set_index_buffer, set_vertex_buffer, set_viewport, set_scissor_rect, set_stencil_reference, set_blend_constants, draw, draw_indexed, draw_indirect, draw_indexed_indirect, dispatch_workgroups, dispatch_workgroups_indirect}
 use Rattle.calls.specs.Transfers.{buffer_barriers, buffer_barrier_commands, barrier_absent, texture_barrier_commands, on_board, over_run_by, regions_of, copy_command, empty_copy, queries_in, copy_queries_command, queries_over, range_out, dispatch_commands}
 use Rattle.calls.specs.Settings.{viewport_rect, scissor_rect, referenced, indexed, bound_slot}
-use Rattle.calls.specs.Draws.{DrawArgs, draw_command, draw_indexed_command, index_over, indirect_commands, indexed_indirect_commands, indirect_over, indirect_absent}
+use Rattle.calls.specs.Draws.{draw_command, draw_indexed_command, index_over, indirect_commands, indexed_indirect_commands, indirect_over, indirect_absent}
 use Rattle.calls.specs.Parts.{with_progress, with_vertex, with_draw, with_fixed, with_bind, with_pass, with_immediates, with_location, with_topology, with_stencil, end_vertex, end_fixed, draw_args, drawn}
 use Rattle.calls.specs.Meaning.{Meaning, in_closed, in_open, in_render, in_compute, in_pass, not_closed, no_run, list_run, bytes_run, queries_run, refusing, free, records, changes}
 

@@ -1,14 +1,12 @@
 -- Transitions, clears, copies, queries, dispatches: the calls with no state of their own. Definitions only.
-use Rattle.std.specs.Prelude.{ℕ, zero, suc, ◌+◌, ◌*◌, ◌-◌, ◌^◌, Bool, true, false, cond, not, ◌&&◌, ◌||◌, List, [], ◌∷◌, ◌++◌, map, ltb, leb, eqb, take, drop, get_or, length}
+use Rattle.std.specs.Prelude.{ℕ, ◌+◌, ◌*◌, ◌-◌, ◌^◌, Bool, cond, ◌&&◌, ◌||◌, List, [], ◌∷◌, ◌++◌, ltb, leb, eqb, take, drop, length}
 use Rattle.std.specs.Int.Bits.{bit_or}
 use Rattle.mask.specs.Mask.{test_bit}
 use Rattle.names.specs.Gl.{GL_COPY_READ_BUFFER, GL_COPY_WRITE_BUFFER}
-use Rattle.records.specs.Check.{some?}
 use Rattle.records.specs.declared.args.Buffer.{Buffer}
 use Rattle.records.specs.declared.command.Command.{Command}
-use Rattle.records.specs.declared.command.Command.TheVariants.{BufferBarrier, TextureBarrier, ClearBuffer, CopyBufferToBuffer, CopyQueryResults, Dispatch}
+use Rattle.records.specs.declared.command.Command.TheVariants.{BufferBarrier, TextureBarrier, CopyBufferToBuffer, CopyQueryResults, Dispatch}
 use Rattle.records.specs.declared.command.BufferCopy.{BufferCopy}
-use Rattle.records.specs.declared.command.MemoryRange.{MemoryRange}
 use Rattle.records.specs.declared.pipeline.PrivateCapabilities.{PrivateCapabilities}
 use Rattle.pass.specs.Marks.{Lent, counted}
 

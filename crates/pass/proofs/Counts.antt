@@ -1,21 +1,18 @@
 -- How many attachments and clears a pass has, by the masks of its places. Assumes nothing.
-use Prim.Native.Nat.{ℕ, ◌≤◌, ◌<◌, min}
-use mathlib.Core.Path.{◌≡◌, refl, sym, ap, ◌∙◌}
+use Prim.Native.Nat.{ℕ, ◌≤◌}
+use mathlib.Core.Path.{◌≡◌, refl, ap, ◌∙◌}
 use mathlib.Core.Bool.{Bool, true, false, ◌||◌}
-use native.Mathlib.Nat.{zero-add}
 use native.Mathlib.Omega.{arith}
 use lib.Count.{ones}
 use lib.ListN.{length}
-use Rattle.mask.specs.Mask.{digit_of, test_bit, mask_of}
-use Rattle.tables.specs.Tabulate.{tabulate}
-use Rattle.mask.specs.By.{mask_by, by-at, by_alike}
+use Rattle.mask.specs.Mask.{digit_of}
 use Rattle.records.specs.declared.pass.OptionDepthStencil.{OptionDepthStencil}
 use Rattle.records.specs.declared.pass.OptionDepthStencil.TheVariants as target
 use Rattle.records.specs.declared.pass.RenderPassDescriptor.{RenderPassDescriptor}
 use Rattle.records.specs.declared.pipeline.PrivateCapabilities.{PrivateCapabilities}
 use Rattle.pass.specs.Render.{places_of, no_place, clears, attach_colors, attach_depth, clear_colors, clear_both, clear_depth}
-use Rattle.pass.specs.Places.{place_at, is_filled, has_depth, clears_depth}
-use Rattle.pass.specs.Gather.{gather, gather-count}
+use Rattle.pass.specs.Places.{has_depth, clears_depth}
+use Rattle.pass.specs.Gather.{gather-count}
 use Rattle.pass.specs.Survey.{fills_at, attach_at, attach-gather, clears_at, clear_at, clear-gather}
 use Rattle.pass.specs.Plan.{filled_mask, cleared_mask}
 

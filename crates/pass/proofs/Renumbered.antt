@@ -1,7 +1,7 @@
 -- Document 02, request 1: "Passes without empty places still match the Rust's list; with them, every field but that number does". Assumes nothing.
 -- `same-when-filled`: without empty places both rules give one list. `ours`, `rusts`: always one list with two numberings.
 -- `begin-same`, `begin-renumbered`: the same of all that the beginning of a pass records.
-use Rattle.std.specs.Prelude.{ℕ, zero, suc, ◌+◌, ◌<◌, ◌≡◌, refl, Bool, false, List, [], ◌∷◌, ◌++◌, length}
+use Rattle.std.specs.Prelude.{ℕ, suc, ◌+◌, ◌<◌, ◌≡◌, refl, false, List, [], ◌∷◌, ◌++◌, length}
 use Rattle.std.proofs.Common.{sym, ap, ap₂, ◌∙◌, add-zero, add-suc, suc-add, zero-add, arith}
 use Rattle.records.specs.Check.{some?}
 use Rattle.records.specs.declared.command.Command.{Command}

@@ -1,11 +1,9 @@
 -- What both kinds of pass begin and end with: timestamps and the label. Definitions only.
-use Rattle.std.specs.Prelude.{ℕ, ◌+◌, ◌^◌, Bool, true, false, cond, not, ◌&&◌, ◌||◌, List, [], ◌∷◌, leb, ltb, get_or, take, length}
-use Rattle.std.proofs.Math.Option.{Option, none, some}
+use Rattle.std.specs.Prelude.{ℕ, ◌+◌, ◌^◌, Bool, true, false, cond, ◌&&◌, ◌||◌, List, [], ◌∷◌, leb, ltb, get_or, take, length}
 use Rattle.records.specs.declared.command.Command.{Command}
 use Rattle.records.specs.declared.command.Command.TheVariants.{TimestampQuery, PushDebugGroup, PopDebugGroup}
 use Rattle.records.specs.declared.command.OptionU32.{OptionU32}
 use Rattle.records.specs.declared.command.OptionU32.TheVariants.{None, Some}
-use Rattle.records.specs.declared.pass.TimestampWrites.{TimestampWrites}
 use Rattle.records.specs.declared.pass.OptionTimestampWrites.{OptionTimestampWrites}
 use Rattle.records.specs.declared.pass.OptionTimestampWrites.TheVariants as writes
 

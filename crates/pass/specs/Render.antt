@@ -1,12 +1,11 @@
 -- `begin_render_pass` and `end_render_pass`: document 01, "The pass record". Definitions only.
-use Rattle.std.specs.Prelude.{ℕ, zero, suc, ◌+◌, Bool, true, false, cond, not, ◌&&◌, ◌||◌, List, [], ◌∷◌, ◌++◌, map, ℤ, pos, nat_abs, Float, ltb, eqb, get_or, take, drop, length}
+use Rattle.std.specs.Prelude.{ℕ, suc, ◌+◌, Bool, true, false, cond, not, ◌&&◌, ◌||◌, List, [], ◌∷◌, ◌++◌, map, pos, nat_abs, ltb, eqb, get_or, take, drop, length}
 use Rattle.std.specs.Float.{binary32}
 use Rattle.std.specs.Float.Ieee.{of_bits}
 use Rattle.mask.specs.Mask.{test_bit}
 use Rattle.mask.specs.By.{mask_by}
 use Rattle.numbers.specs.Convert.{signed, unsigned, twos, trunc_to, convert_to}
 use Rattle.names.specs.Gl.{GL_COLOR_ATTACHMENT0, GL_DEPTH_ATTACHMENT, GL_STENCIL_ATTACHMENT, GL_DEPTH_STENCIL_ATTACHMENT}
-use Rattle.names.specs.Start.{start_primitive_state}
 use Rattle.records.specs.Check.{some?}
 use Rattle.records.specs.declared.command.Command.{Command}
 use Rattle.records.specs.declared.command.Command.TheVariants.{ResetFramebuffer, BindAttachment, ResolveAttachment, InvalidateAttachments, SetDrawColorBuffers, ClearColorF, ClearColorU, ClearColorI, ClearDepth, ClearStencil, ClearDepthAndStencil, SetScissor, SetViewport}
@@ -33,7 +32,6 @@ use Rattle.records.specs.declared.pass.RenderPassDescriptor.{RenderPassDescripto
 use Rattle.records.specs.declared.pipeline.PrivateCapabilities.{PrivateCapabilities}
 use Rattle.records.specs.declared.state.ResolveDesc.{ResolveDesc}
 use Rattle.records.specs.declared.state.PassState.{PassState}
-use Rattle.slots.specs.Vertex.{attributes_of}
 use Rattle.pass.specs.Marks.{Lent, Label, begin_timestamp, end_timestamp, push_label, pop_label, timestamp}
 
 -- ---- the attachment operations, `AttachmentOps`: load 1, clear 2, don't care 4, store 8, discard 16

@@ -21,7 +21,7 @@ use Rattle.records.specs.declared.pass.OptionTimestampWrites.TheVariants as writ
 use Rattle.records.specs.declared.pass.OptionView.TheVariants as view
 use Rattle.records.specs.declared.pass.RenderPassDescriptor.{RenderPassDescriptor}
 use Rattle.records.specs.declared.pipeline.PrivateCapabilities.{PrivateCapabilities}
-use Rattle.pass.specs.Marks.{Lent, Label}
+use Rattle.pass.specs.Marks.{Lent}
 use Rattle.pass.specs.Render.{no_place, full_depth, default_first, attach_colors, clear_colors, begin_render_commands}
 
 abbrev plain : PrivateCapabilities

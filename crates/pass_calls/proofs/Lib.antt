@@ -1,10 +1,7 @@
 pub mod Moved
 pub mod EndPlans
-pub mod Copied
 pub mod Labels
 pub mod Begun
 pub mod RenderCommands
 pub mod RenderRight
 pub mod ComputeRight
-pub mod RenderPlans
-pub mod ComputePlans

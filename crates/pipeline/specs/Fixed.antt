@@ -1,9 +1,7 @@
 -- The fixed part of `set_render_pipeline`: primitive, depth bias, depth, stencil, alpha to coverage, targets, clip distances. Definitions only.
-use Rattle.std.specs.Prelude.{ℕ, zero, suc, ◌+◌, Bool, true, false, cond, not, ◌&&◌, ◌||◌, List, [], ◌∷◌, ◌++◌, ltb, eqb, ℤ, get_or, take, length}
+use Rattle.std.specs.Prelude.{ℕ, suc, ◌+◌, Bool, true, false, cond, not, ◌&&◌, List, [], ◌∷◌, ◌++◌, ltb, eqb, take}
 use Rattle.names.specs.Gl.{GL_FRONT, GL_BACK, GL_FRONT_AND_BACK}
 use Rattle.names.specs.Maps.{primitive_state}
-use Rattle.names.specs.declared.gl.PrimitiveState.{PrimitiveState}
-use Rattle.names.specs.declared.gl.StencilOps.{StencilOps}
 use Rattle.names.specs.declared.gl.StencilSide.{StencilSide}
 use Rattle.names.specs.declared.gl.StencilState.{StencilState}
 use Rattle.records.specs.Start.{start_target}
@@ -11,8 +9,6 @@ use Rattle.records.specs.Same.{same_bool, same_primitive, same_depth_bias, same_
 use Rattle.records.specs.declared.command.Command.{Command}
 use Rattle.records.specs.declared.command.Command.TheVariants.{SetPrimitive, SetDepthBias, SetDepth, SetStencilFunc, SetStencilOps, ConfigureDepthStencil, SetAlphaToCoverage, SetColorTarget, SetClipDistances}
 use Rattle.records.specs.declared.command.OptionU32.TheVariants.{None, Some}
-use Rattle.records.specs.declared.command.DepthState.{DepthState}
-use Rattle.records.specs.declared.command.DepthBiasState.{DepthBiasState}
 use Rattle.records.specs.declared.command.ColorTargetDesc.{ColorTargetDesc}
 use Rattle.records.specs.declared.pipeline.OptionDepthState.{OptionDepthState}
 use Rattle.records.specs.declared.pipeline.OptionDepthState.TheVariants as depth

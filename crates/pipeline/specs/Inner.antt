@@ -1,5 +1,5 @@
 -- `set_pipeline_inner`: what render and compute pipelines share. Definitions only.
-use Rattle.std.specs.Prelude.{ℕ, Bool, true, false, cond, not, ◌&&◌, ◌||◌, List, [], ◌∷◌, leb, ltb, eqb, get_or, take}
+use Rattle.std.specs.Prelude.{ℕ, Bool, true, false, not, ◌||◌, List, ◌∷◌, leb, ltb, get_or, take}
 use Rattle.tables.specs.Tabulate.{tabulate}
 use Rattle.mask.specs.By.{mask_by}
 use Rattle.records.specs.Check.{some?, bad_descriptor}

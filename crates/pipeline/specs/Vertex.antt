@@ -1,5 +1,5 @@
 -- The vertex part of `set_render_pipeline`: attributes, slot descriptions, masks. Definitions only.
-use Rattle.std.specs.Prelude.{ℕ, Bool, true, false, cond, not, ◌&&◌, ◌||◌, List, [], ◌∷◌, map, ltb, leb, eqb, get_or, take}
+use Rattle.std.specs.Prelude.{ℕ, Bool, true, false, cond, not, ◌&&◌, ◌||◌, List, map, ltb, eqb, get_or, take}
 use Rattle.std.proofs.Math.Option.{Option, none, some}
 use Rattle.std.specs.Int.Bits.{bit_or}
 use Rattle.tables.specs.Tabulate.{tabulate}
@@ -20,7 +20,7 @@ use Rattle.records.specs.declared.pipeline.RenderPipeline.{RenderPipeline}
 use Rattle.records.specs.declared.pipeline.PrivateCapabilities.{PrivateCapabilities}
 use Rattle.records.specs.declared.state.VertexSlot.{VertexSlot}
 use Rattle.records.specs.declared.state.VertexState.{VertexState}
-use Rattle.slots.specs.Vertex.{step_of, is_instance, slot_at, desc_at, attributes_of}
+use Rattle.slots.specs.Vertex.{is_instance, slot_at, desc_at, attributes_of}
 use Rattle.slots.specs.Prepare.{slots_of}
 
 abbrev pub no_layout : VertexBufferLayout

@@ -1,4 +1,3 @@
-pub mod Families
 pub mod Rights
 pub mod Taken
 pub mod Sames

@@ -51,6 +51,6 @@ stands-in {i = i} e h l = h (subst (λ (x : List Command). i < length x) e l) Po
 -- a plan that is right, written, is the call
 pub done : (caps : PrivateCapabilities) (s : State) (c : Call) → ((r : Rooms) → (meaning caps s c).handed r ≡ list_rooms r.commands) → (meaning caps s c).bytes ≡ [] → (meaning caps s c).queries ≡ []
     → (run run' : List Record) (a : Answer) (outcome : Outcome) (x : State) (at n : ℕ) (f : ℕ → Command) (allowed : ℕ → Type 0) → Right (length run) s (meaning caps s c) outcome x at n f allowed
-    → (a ≡ record { outcome = outcome; state = x }) × (run' ≡ filled (λ i. record_of (f i)) run at n) → Lists caps s c run a run'
-done caps s c alone no_bytes no-queries run run' a outcome x at n f allowed h e =
-    lists-done caps s c alone no_bytes no-queries run run' a outcome x at n f h.0 h.1 e.0 e.1
+    → a ≡ record { outcome = outcome; state = x } → run' ≡ filled (λ i. record_of (f i)) run at n → Lists caps s c run a run'
+done caps s c alone no_bytes no-queries run run' a outcome x at n f allowed h e w =
+    lists-done caps s c alone no_bytes no-queries run run' a outcome x at n f h.0 h.1 e w

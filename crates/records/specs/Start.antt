@@ -1,5 +1,5 @@
 -- The starting values: document 01, "The state record". Each record's own, then the parts, then the state. Definitions only.
-use Rattle.std.specs.Prelude.{false, List, replicate, pos}
+use Rattle.std.specs.Prelude.{false, replicate, pos}
 use Rattle.names.specs.Start.{start_primitive_state, start_stencil_state}
 use Rattle.records.specs.declared.command.Extent3d.{Extent3d}
 use Rattle.records.specs.declared.command.OptionU32.TheVariants.{None}

@@ -62,8 +62,3 @@ pub board-one : (t u : Bool) (c : Command) → only (t && not u) c ≡ cond t (c
 board-one true true c = refl
 board-one true false c = refl
 board-one false u c = refl
-
-pub board-few : (t u : Bool) (c : Command) → length (cond t (cond u [] (c ∷ [])) []) ≤ 1
-board-few true true c = omega arith
-board-few true false c = omega arith
-board-few false u c = omega arith

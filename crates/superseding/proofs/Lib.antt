@@ -9,4 +9,3 @@ pub mod Blanks
 pub mod Treating
 pub mod Promises
 pub mod Examples
-pub mod Data

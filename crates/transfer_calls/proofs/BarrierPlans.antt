@@ -1,23 +1,14 @@
--- Plans of buffer barriers, as the walks have them, and as a function's table spells their types. Assumes nothing.
+-- Plans of buffer barriers: one that is right fits, and written it is the call. Assumes nothing.
 use Prim.Native.Nat.{ℕ, ◌+◌, ◌<◌, ◌≤◌}
 use mathlib.Core.List.{List, []}
 use mathlib.Core.Path.{◌≡◌}
 use lib.ListN.{length}
-use mir.Table.{Table}
 use Rattle.walks.specs.Fill.{filled}
-use Rattle.walks.proofs.Args.{Datum, of_struct}
-use Rattle.walks.proofs.Filling.{Kinds}
-use Rattle.walks.proofs.Recording.{Answers}
-use Rattle.walks.proofs.RecordingFrom.{PlansFrom}
 use Rattle.records.specs.declared.check.Rooms.{Rooms}
 use Rattle.records.specs.declared.command.Record.{Record}
 use Rattle.records.specs.declared.pipeline.PrivateCapabilities.{PrivateCapabilities}
 use Rattle.records.specs.declared.state.Answer.{Answer}
 use Rattle.records.specs.declared.state.State.{State}
-use Rattle.records.specs.contracts.command.Command as C
-use Rattle.records.specs.contracts.command.Record as R
-use Rattle.records.specs.contracts.state.Answer as A
-use Rattle.records.specs.contracts.state.State as S
 use Rattle.calls.specs.Call.{Call}
 use Rattle.calls.specs.Did.{Lists, record_of}
 use Rattle.calls.specs.Meaning.{Meaning}
@@ -25,39 +16,8 @@ use Rattle.calls.specs.Parts.{with_progress}
 use Rattle.calls.specs.Planned.{list_rooms}
 use Rattle.calls.specs.Step.{meaning}
 use Rattle.calls.proofs.Listed.{lists-done}
-use Rattle.calls.proofs.Data.{text, Spells, SpellsE, kinds_of, state, answer}
 use Rattle.transfer_calls.specs.declared.barriers.BarrierPlan.{BarrierPlan}
 use Rattle.transfer_calls.specs.Barriers.{BarrierAllowed, BarriersOf, barrier_command_at, barrier_answer}
-use Rattle.transfer_calls.specs.contracts.barriers.Barriers as B
-use Rattle.transfer_calls.proofs.barriers.Barriers.TheLaws as B'
-use Rattle.transfer_calls.specs.contracts.barriers.BarrierPlan as P
-use Rattle.transfer_calls.proofs.barriers.BarrierPlan.TheLaws as P'
-
-pub record Spelled (Δ : Table) : Type 0 where
-  pub records : Spells Δ R.the_type
-  pub commands : SpellsE Δ C.the_type
-  pub batches : Spells Δ B.the_type
-
-abbrev pub kinds : (Δ : Table) → Spelled Δ → Kinds
-kinds Δ e = kinds_of Δ e.records e.commands (of_struct B.the_type B'.the_laws B'.the_plain (text Δ B.the_type) e.batches)
-
-abbrev pub barrier_plan : (Δ : Table) → Spells Δ P.the_type → Datum
-barrier_plan Δ p = of_struct P.the_type P'.the_laws P'.the_plain (text Δ P.the_type) p
-
-abbrev pub barriers : (Δ : Table) → Spelled Δ → Spells Δ P.the_type → PlansFrom
-barriers Δ e p =
-    record {
-      kinds = kinds Δ e;
-      Pl = barrier_plan Δ p;
-      batch = λ p. p.batch;
-      at = λ b. b.at;
-      n = λ b. b.n;
-      Allowed = BarrierAllowed;
-      command_at = barrier_command_at;
-    }
-
-abbrev pub barrier_answers : (Δ : Table) (p : Spells Δ P.the_type) → Spells Δ S.the_type → Spells Δ A.the_type → Answers (barrier_plan Δ p)
-barrier_answers Δ p s a = record { St = state Δ s; An = answer Δ a; answer = barrier_answer }
 
 -- a plan that is right fits
 pub barriers-fits : (ns : List ℕ) (room : ℕ) (s : State) (m : Meaning) (p : BarrierPlan) → BarriersOf ns room s m p → (p.batch.at + p.batch.n ≤ room) × ((i : ℕ) → i < p.batch.n → BarrierAllowed ns p.batch i)

@@ -1,7 +1,6 @@
 pub mod Triples
 pub mod Recorded
 pub mod Found
-pub mod Fronts
 pub mod BarrierPlans
 pub mod CopyPlans
 pub mod ResolvedPlans

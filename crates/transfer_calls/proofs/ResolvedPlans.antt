@@ -1,23 +1,15 @@
--- Plans of query results, as the walks have them, and as a function's table spells their types. Assumes nothing.
+-- Plans of query results: one that is right fits, and written it is the call. Assumes nothing.
 use Prim.Native.Nat.{ℕ, ◌+◌, ◌<◌, ◌≤◌}
 use mathlib.Core.List.{List, []}
 use mathlib.Core.Path.{◌≡◌, ◌∙◌}
 use native.Mathlib.Omega.{arith}
 use lib.ListN.{length}
-use mir.Table.{Table}
 use Rattle.walks.specs.Fill.{filled}
-use Rattle.walks.proofs.Args.{Datum, of_struct}
-use Rattle.walks.proofs.Filling.{Kinds}
-use Rattle.walks.proofs.Recording.{Plans, Answers}
 use Rattle.records.specs.declared.check.Rooms.{Rooms}
 use Rattle.records.specs.declared.command.Record.{Record}
 use Rattle.records.specs.declared.pipeline.PrivateCapabilities.{PrivateCapabilities}
 use Rattle.records.specs.declared.state.Answer.{Answer}
 use Rattle.records.specs.declared.state.State.{State}
-use Rattle.records.specs.contracts.command.Command as C
-use Rattle.records.specs.contracts.command.Record as R
-use Rattle.records.specs.contracts.state.Answer as A
-use Rattle.records.specs.contracts.state.State as S
 use Rattle.calls.specs.Call.{Call}
 use Rattle.calls.specs.Did.{Resolves, record_of}
 use Rattle.calls.specs.Meaning.{Meaning}
@@ -25,39 +17,8 @@ use Rattle.calls.specs.Parts.{with_progress}
 use Rattle.calls.specs.Planned.{query_rooms}
 use Rattle.calls.specs.Step.{meaning, outcome_of}
 use Rattle.calls.proofs.Listed.{resolves-done, numbers-put}
-use Rattle.calls.proofs.Data.{text, Spells, SpellsE, kinds_of, state, answer}
 use Rattle.transfer_calls.specs.declared.resolved.ResolvedPlan.{ResolvedPlan}
 use Rattle.transfer_calls.specs.Resolved.{QueriesFit, queries_copied, ResolvedOf, resolved_at, resolved_answer}
-use Rattle.transfer_calls.specs.contracts.resolved.Resolved as B
-use Rattle.transfer_calls.proofs.resolved.Resolved.TheLaws as B'
-use Rattle.transfer_calls.specs.contracts.resolved.ResolvedPlan as P
-use Rattle.transfer_calls.proofs.resolved.ResolvedPlan.TheLaws as P'
-
-pub record Spelled (Δ : Table) : Type 0 where
-  pub records : Spells Δ R.the_type
-  pub commands : SpellsE Δ C.the_type
-  pub batches : Spells Δ B.the_type
-
-abbrev pub kinds : (Δ : Table) → Spelled Δ → Kinds
-kinds Δ e = kinds_of Δ e.records e.commands (of_struct B.the_type B'.the_laws B'.the_plain (text Δ B.the_type) e.batches)
-
-abbrev pub resolved_plan : (Δ : Table) → Spells Δ P.the_type → Datum
-resolved_plan Δ p = of_struct P.the_type P'.the_laws P'.the_plain (text Δ P.the_type) p
-
-abbrev pub resolved : (Δ : Table) → Spelled Δ → Spells Δ P.the_type → Plans
-resolved Δ e p =
-    record {
-      kinds = kinds Δ e;
-      Pl = resolved_plan Δ p;
-      batch = λ p. p.batch;
-      at = λ b. b.at;
-      n = λ b. b.n;
-      Allowed = λ b i. i < 1;
-      command_at = resolved_at;
-    }
-
-abbrev pub resolved_answers : (Δ : Table) (p : Spells Δ P.the_type) → Spells Δ S.the_type → Spells Δ A.the_type → Answers (resolved_plan Δ p)
-resolved_answers Δ p s a = record { St = state Δ s; An = answer Δ a; answer = resolved_answer }
 
 -- a plan that is right fits
 pub resolved-fits : (ns : List ℕ) (room queries : ℕ) (s : State) (m : Meaning) (p : ResolvedPlan) → ResolvedOf ns room queries s m p

@@ -51,7 +51,7 @@ fn absent(run: &[u32], i: usize) -> bool
 
 // How many barriers are recorded.
 pub(crate) fn barrier_count(run: &[u32], count: usize) -> usize
-    ensures { result ≡ length (buffer_barrier_commands (buffer_barriers (record { run = run.entry.now; count = count }))) }
+    ensures { result ≡ length (buffer_barrier_commands (buffer_barriers (record { run = run.now; count = count }))) }
 {
     let mut left = elements(run.len(), count);
     let mut n: usize = 0;
@@ -65,7 +65,7 @@ pub(crate) fn barrier_count(run: &[u32], count: usize) -> usize
 
 // Condition 4.
 pub(crate) fn barrier_absent(run: &[u32], count: usize) -> bool
-    ensures { result ≡ some? barrier_absent (buffer_barriers (record { run = run.entry.now; count = count })) }
+    ensures { result ≡ some? barrier_absent (buffer_barriers (record { run = run.now; count = count })) }
 {
     let mut left = elements(run.len(), count);
     let mut bad = false;

@@ -49,14 +49,14 @@ fn region_at(run: &[u64], i: usize) -> BufferCopy
 
 // How many copies there are.
 pub(crate) fn region_count(run: &[u64], count: usize) -> usize
-    ensures { result ≡ length (regions_of (record { run = run.entry.now; count = count })) }
+    ensures { result ≡ length (regions_of (record { run = run.now; count = count })) }
 {
     elements(run.len(), count)
 }
 
 // Condition 3.
 pub(crate) fn empty_region(run: &[u64], count: usize) -> bool
-    ensures { result ≡ some? empty_copy (regions_of (record { run = run.entry.now; count = count })) }
+    ensures { result ≡ some? empty_copy (regions_of (record { run = run.now; count = count })) }
 {
     let mut left = elements(run.len(), count);
     let mut bad = false;

@@ -109,7 +109,7 @@ pub fn copy_query_results(
     dst: Buffer,
     offset: u64,
 ) -> Answer
-    ensures { Resolves caps s (copy_query_results (record { queries = record { run = set.now; count = count }; target = target }) start end dst offset) list.old queries.entry.now result list.new queries.exit.now }
+    ensures { Resolves caps s (copy_query_results (record { queries = record { run = set.now; count = count }; target = target }) start end dst offset) list.old queries.old result list.new queries.new }
 {
     let plan = plan_copy_query_results(
         set,

@@ -32,17 +32,17 @@ pub returns-then-field-lt-ZERO_BELOW : goal.returns-then-field-lt-ZERO_BELOW
 returns-then-field-lt-ZERO_BELOW c =
     let b = c.args.b in
     let B = c.requires in
-    (zero-le, of-fields b B (zero-case (b / 2 ^ 52) (b % 2 ^ 52) c.if-field-lt-ZERO_BELOW.true (digits b B)))
+    (zero-le, of-fields b B (zero-case (b / 2 ^ 52) (b % 2 ^ 52) (omega arith) (digits b B)))
 
 pub nearest-requires : goal.nearest-requires
 nearest-requires c =
     let b = c.args.b in
     let B = c.requires in
     let x = b / 2 ^ 52 in
-    let e = shifted x c.if-field-lt-ZERO_BELOW.false in (
+    let e = shifted x (omega arith) in (
       digits_lt (b % 2 ^ 52) (digits b B),
       subst (λ (y : ℕ). 0 < y) (sym e) (pow_pos (926 - x)),
-      subst (λ (y : ℕ). y < 2 ^ 63) (sym e) (pow-lt (go x c.if-field-lt-ZERO_BELOW.false)),
+      subst (λ (y : ℕ). y < 2 ^ 63) (sym e) (pow-lt (go x (omega arith))),
     )
   where
     go : (a : ℕ) → 872 ≤ a → 926 - a < 63
@@ -51,35 +51,35 @@ nearest-requires c =
 pub overflow_cast-result : goal.overflow_cast-result
 overflow_cast-result c =
     let b = c.args.b in
-    let e = c.nearest.ensures ∙ ap (λ (y : ℕ). closest (q b) y) (shifted (b / 2 ^ 52) c.if-field-lt-ZERO_BELOW.false) in
-    record { fits = lt_of_le_of_lt (first-le b c.nearest.result c.requires c.if-field-lt-NORMAL_FROM.true e) (lit< tt) }
+    let e = c.nearest.ensures ∙ ap (λ (y : ℕ). closest (q b) y) (shifted (b / 2 ^ 52) (omega arith)) in
+    record { fits = lt_of_le_of_lt (first-le b c.nearest.result c.requires (omega arith) e) (lit< tt) }
 
 pub returns-then-field-lt-NORMAL_FROM : goal.returns-then-field-lt-NORMAL_FROM
 returns-then-field-lt-NORMAL_FROM c =
     let b = c.args.b in
     let B = c.requires in
-    let e = c.nearest.ensures ∙ ap (λ (y : ℕ). closest (q b) y) (shifted (b / 2 ^ 52) c.if-field-lt-ZERO_BELOW.false) in (
-      le_trans (first-le b c.nearest.result B c.if-field-lt-NORMAL_FROM.true e) (lit≤ tt),
-      ap (of_bits binary32) e ∙ of-fields b B (sub-case (b / 2 ^ 52) (b % 2 ^ 52) c.if-field-lt-ZERO_BELOW.false c.if-field-lt-NORMAL_FROM.true (digits b B)),
+    let e = c.nearest.ensures ∙ ap (λ (y : ℕ). closest (q b) y) (shifted (b / 2 ^ 52) (omega arith)) in (
+      le_trans (first-le b c.nearest.result B (omega arith) e) (lit≤ tt),
+      ap (of_bits binary32) e ∙ of-fields b B (sub-case (b / 2 ^ 52) (b % 2 ^ 52) (omega arith) (omega arith) (digits b B)),
     )
 
 pub overflow_add-result : goal.overflow_add-result
-overflow_add-result c = record { fits = lt_of_le_of_lt (sum-le c.args.b c.nearest-then-field-lt-INFINITY_FROM.result c.requires c.if-field-lt-INFINITY_FROM.true c.nearest-then-field-lt-INFINITY_FROM.ensures) (lit< tt) }
+overflow_add-result c = record { fits = lt_of_le_of_lt (sum-le c.args.b c.nearest-then-field-lt-INFINITY_FROM.result c.requires (omega arith) c.nearest-then-field-lt-INFINITY_FROM.ensures) (lit< tt) }
 
 pub overflow_cast-result-then-field-lt-INFINITY_FROM : goal.overflow_cast-result-then-field-lt-INFINITY_FROM
-overflow_cast-result-then-field-lt-INFINITY_FROM c = record { fits = lt_of_le_of_lt (sum-le c.args.b c.nearest-then-field-lt-INFINITY_FROM.result c.requires c.if-field-lt-INFINITY_FROM.true c.nearest-then-field-lt-INFINITY_FROM.ensures) (lit< tt) }
+overflow_cast-result-then-field-lt-INFINITY_FROM c = record { fits = lt_of_le_of_lt (sum-le c.args.b c.nearest-then-field-lt-INFINITY_FROM.result c.requires (omega arith) c.nearest-then-field-lt-INFINITY_FROM.ensures) (lit< tt) }
 
 pub returns-then-field-lt-INFINITY_FROM : goal.returns-then-field-lt-INFINITY_FROM
 returns-then-field-lt-INFINITY_FROM c =
     let b = c.args.b in
     let B = c.requires in (
-      sum-le b c.nearest-then-field-lt-INFINITY_FROM.result B c.if-field-lt-INFINITY_FROM.true c.nearest-then-field-lt-INFINITY_FROM.ensures,
+      sum-le b c.nearest-then-field-lt-INFINITY_FROM.result B (omega arith) c.nearest-then-field-lt-INFINITY_FROM.ensures,
       ap (λ (y : ℕ). of_bits binary32 ((b / 2 ^ 52 - 897) * 2 ^ 23 + y)) c.nearest-then-field-lt-INFINITY_FROM.ensures
-          ∙ of-fields b B (normal-case (b / 2 ^ 52) (b % 2 ^ 52) c.if-field-lt-NORMAL_FROM.false c.if-field-lt-INFINITY_FROM.true (digits b B)),
+          ∙ of-fields b B (normal-case (b / 2 ^ 52) (b % 2 ^ 52) (omega arith) (omega arith) (digits b B)),
     )
 
 pub returns : goal.returns
 returns c =
     let b = c.args.b in
     let B = c.requires in
-    (lit≤ tt, of-fields b B (large-case (b / 2 ^ 52) (b % 2 ^ 52) c.if-field-lt-INFINITY_FROM.false (finite-or-inf b B) (digits b B)))
+    (lit≤ tt, of-fields b B (large-case (b / 2 ^ 52) (b % 2 ^ 52) (omega arith) (finite-or-inf b B) (digits b B)))

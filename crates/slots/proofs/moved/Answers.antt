@@ -1,5 +1,5 @@
 -- `slots::moved` meets its contract. Invariant: the mask of the slots below i. Measure: the slots left. Assumes nothing.
-use Prim.Native.Nat.{suc, ◌+◌, ◌-◌, ◌<◌}
+use Prim.Native.Nat.{suc, ◌+◌, ◌<◌}
 use mathlib.Core.Path.{◌≡◌, refl}
 use native.Mathlib.Omega.{arith}
 use Rattle.mask.specs.Mask.{mask_of}

@@ -1,11 +1,10 @@
 -- `bindings::units::dirty_units` meets its contract. Invariant: the mask of the units below u. Measure: the units left. Assumes nothing.
-use Prim.Native.Nat.{suc, ◌+◌, ◌-◌, ◌<◌}
+use Prim.Native.Nat.{suc, ◌+◌, ◌<◌}
 use mathlib.Core.Path.{◌≡◌, refl}
 use native.Mathlib.Omega.{arith}
 use Rattle.mask.specs.Mask.{mask_of}
 use Rattle.tables.specs.Tabulate.{tabulate}
 use Rattle.mask.specs.By.{mask_by, by_next}
-use Rattle.bindings.specs.Units.{takes_one}
 use Rattle.bindings.proofs.units.dirty_units.Invariants.{named}
 use Rattle.bindings.proofs.units.dirty_units.Goals as goal
 

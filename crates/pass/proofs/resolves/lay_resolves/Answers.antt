@@ -1,5 +1,5 @@
 -- `pass::resolves::lay_resolves` meets its contract. Invariant: the resolves of the first i places are laid over the old ones. Measure: the places left. Assumes nothing.
-use Prim.Native.Nat.{suc, ◌+◌, ◌-◌}
+use Prim.Native.Nat.{suc, ◌+◌}
 use mathlib.Core.Path.{◌≡◌, refl, ap}
 use mathlib.Core.Bool.{cond}
 use mathlib.Core.List.{[], ◌∷◌, ◌++◌}

@@ -1,5 +1,5 @@
 -- `pass::survey::survey` meets its contract. Invariant: the masks of the places below i. Measure: the places left. Assumes nothing.
-use Prim.Native.Nat.{suc, ◌+◌, ◌-◌, ◌<◌}
+use Prim.Native.Nat.{suc, ◌+◌, ◌<◌}
 use mathlib.Core.Path.{◌≡◌, refl}
 use native.Mathlib.Omega.{arith}
 use Rattle.mask.specs.Mask.{mask_of}

@@ -2,9 +2,7 @@
 use mathlib.Core.Path.{◌≡◌}
 use mathlib.Core.List.{[]}
 use native.Mathlib.Nat.{not-suc-le-zero}
-use Rattle.records.specs.declared.command.Command.TheVariants.{SetDepth}
 use Rattle.pipeline.specs.Fixed.{depth_commands}
-use Rattle.pipeline.proofs.Choice.{alone}
 use Rattle.pipeline.proofs.fixed.depth_command_at.Goals as goal
 
 pub returns-in-None : goal.returns-in-None

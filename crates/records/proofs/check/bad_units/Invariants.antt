@@ -1,5 +1,5 @@
 -- `records::check::bad_units` meets its contract. Invariant: `bad` says whether a unit from `left` on is bad. Measure: `left`. Assumes nothing.
-use Prim.Native.Nat.{◌-◌, ◌≤◌}
+use Prim.Native.Nat.{◌≤◌}
 use mathlib.Core.Path.{◌≡◌}
 use lib.ListN.{drop}
 use Rattle.records.specs.Check.{bad_units}

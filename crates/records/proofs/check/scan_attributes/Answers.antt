@@ -1,7 +1,6 @@
 -- `records::check::scan_attributes` meets its contract. Invariant: the scan is that of the counted attributes from `left` on. Measure: `left`. Assumes nothing.
 use Prim.Native.Nat.{◌-◌}
 use mathlib.Core.Path.{◌≡◌, ap, ◌∙◌}
-use mathlib.Core.Logic.{⊎_elim}
 use native.Mathlib.Omega.{arith}
 use lib.ListN.{length, get_or, take, drop}
 use Rattle.mask.specs.Mask.{test_bit}
@@ -33,10 +32,10 @@ loop-left-preserved c =
     let a = get_or c.args.attributes (l.left - 1) start_attribute in
     let later = drop l.left (take c.args.count c.args.attributes) in
     let again : c.if-a-lt16.again ≡ among a.location (locations later) =
-        elim c.if-a-lt16.branch [
-          then-a-lt16 w ↦ w.again-is ∙ w.test-again.ensures ∙ ap (λ (x : AttributeScan). test_bit x.seen a.location) l.invariant.1 ∙ seen-before later a.location w.if-a-lt16.true
-        | else-a-lt16 w ↦ w.again-is ∙ w.stands_later-again.ensures
-        ] in (
+    elim c.if-a-lt16.branch [
+      | then-a-lt16 w ↦ w.again-is ∙ w.test-again.ensures ∙ ap (λ (x : AttributeScan). test_bit x.seen a.location) l.invariant.1 ∙ seen-before later a.location w.if-a-lt16.true
+      | else-a-lt16 w ↦ w.again-is ∙ w.stands_later-again.ensures
+    ] in (
       omega arith,
       rw (
         one-counted c.args.attributes c.args.count 16 l.left start_attribute e c.loop-left-test.true l.invariant.0,

@@ -1,5 +1,5 @@
 -- `records::check::scan_attributes` meets its contract. Invariant: the scan is that of the counted attributes from `left` on. Measure: `left`. Assumes nothing.
-use Prim.Native.Nat.{◌-◌, ◌≤◌, min}
+use Prim.Native.Nat.{◌≤◌, min}
 use mathlib.Core.Path.{◌≡◌}
 use lib.ListN.{take, drop}
 use Rattle.records.specs.Scan.{scanned}

@@ -1,5 +1,5 @@
 -- `records::check::stands_later` meets its contract. Invariant: the location stands from `i` on where it stands from `from` on. Measure: what is left. Assumes nothing.
-use Prim.Native.Nat.{◌-◌, ◌<◌, min}
+use Prim.Native.Nat.{◌<◌, min}
 use mathlib.Core.Path.{◌≡◌}
 use native.Mathlib.Numerals.{add-one}
 use native.Mathlib.Omega.{arith}

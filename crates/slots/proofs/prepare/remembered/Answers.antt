@@ -1,5 +1,5 @@
 -- `slots::prepare::remembered` meets its contract. Invariant: the numbers below i are the new ones, the others the old. Measure: the slots left. Assumes nothing.
-use Prim.Native.Nat.{suc, ◌+◌, ◌-◌, ◌<◌}
+use Prim.Native.Nat.{suc, ◌+◌, ◌<◌}
 use mathlib.Core.Path.{◌≡◌, sym, ◌∙◌}
 use native.Mathlib.Omega.{arith}
 use borrow.Author.Rules.{rules}

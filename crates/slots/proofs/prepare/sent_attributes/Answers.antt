@@ -1,5 +1,5 @@
 -- `slots::prepare::sent_attributes` meets its contract. Invariant: the mask of the first i flags. Measure: the attributes left. Assumes nothing.
-use Prim.Native.Nat.{suc, ◌+◌, ◌-◌, ◌≤◌, ◌<◌, min}
+use Prim.Native.Nat.{suc, ◌+◌, ◌≤◌, ◌<◌, min}
 use mathlib.Core.Path.{◌≡◌, refl, sym, ◌∙◌}
 use native.Mathlib.Omega.{arith}
 use Rattle.mask.specs.Mask.{mask_of}

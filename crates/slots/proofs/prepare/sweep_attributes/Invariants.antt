@@ -1,5 +1,5 @@
 -- `slots::prepare::sweep_attributes` meets its contract. Invariant: the sweep is that of the counted attributes from `left` on. Measure: `left`. Assumes nothing.
-use Prim.Native.Nat.{◌+◌, ◌-◌, ◌≤◌, min}
+use Prim.Native.Nat.{◌+◌, ◌≤◌, min}
 use mathlib.Core.Path.{◌≡◌}
 use lib.ListN.{drop}
 use Rattle.slots.specs.Vertex.{attributes_of}

@@ -1,0 +1,10 @@
+use Rattle.std.proofs.Common.{◌-◌}
+use Rattle.walks.proofs.Fronts.{Front}
+use Rattle.calls.specs.Did.{record_of}
+use Rattle.single_calls.proofs.one.fill_one.Given as goal
+
+abbrev pub invariant-loop-i : goal.invariant-loop-i
+invariant-loop-i l = Front (λ i. record_of l.batch.command) l.initial.list l.at l.n l.list l.i
+
+abbrev pub decreases-loop-i : goal.decreases-loop-i
+decreases-loop-i l = l.n - l.i

@@ -1,0 +1,11 @@
+use Rattle.std.proofs.Common.{◌-◌}
+use Rattle.walks.proofs.Fronts.{Front}
+use Rattle.calls.specs.Did.{record_of}
+use Rattle.transfer_calls.specs.Barriers.{barrier_command_at}
+use Rattle.transfer_calls.proofs.barriers.fill_barriers.Given as goal
+
+abbrev pub invariant-loop-i : goal.invariant-loop-i
+invariant-loop-i l = Front (λ i. record_of (barrier_command_at l.run l.batch i)) l.initial.list l.at l.n l.list l.i
+
+abbrev pub decreases-loop-i : goal.decreases-loop-i
+decreases-loop-i l = l.n - l.i

@@ -1,0 +1,5 @@
+-- `transfer_calls::regions::copies_answer` meets its contract. Assumes nothing.
+use Rattle.transfer_calls.proofs.regions.copies_answer.Goals as goal
+
+pub returns : goal.returns
+returns c = rw c.with_progress-state.ensures
