@@ -1,7 +1,7 @@
 #!/usr/bin/env bash
 # Tries the must-fail edits of `machine` and `book` on the theorem. In the gate the rows of proofs/Worked.antt refuse them, in their own
 # small crate; here these rows are left out, and the proof of the order theorem (`order`), or a worked list (`cases`), must refuse them.
-#   tools/wrong-definitions.sh [CRATE/NAME...]     without names: all, two to three minutes each
+#   tools/wrong-definitions.sh [CRATE/NAME...]     without names: all
 set -euo pipefail
 root=$(cd "$(dirname "$0")/.." && pwd)
 cd "$root"
@@ -11,8 +11,7 @@ for one in "$@"; do
     crate=${one%/*} name=${one#*/}
     copy=$(mktemp -d)
     trap 'rm -rf "$copy"' EXIT
-    cp -R crates crates.txt "$copy"
-    if [ -d target ]; then cp -R target "$copy"; fi
+    tar cf - --exclude=out crates crates.txt | tar xf - -C "$copy"
     python3 - "$copy/crates/$crate" "crates/$crate/must-fail/$name.edit" <<'PY'
 import os, sys
 crate, edit = sys.argv[1:]
@@ -30,12 +29,16 @@ left = [line for line in open(lib) if line.strip() != "pub mod Worked"]
 if left: open(lib, "w").writelines(left)
 else: os.rmdir(os.path.dirname(lib)) if os.remove(lib) is None and not os.listdir(os.path.dirname(lib)) else None
 PY
-    (cd "$copy" && rt check order cases > out 2>&1) || true
-    refused=$(grep -o '^rt: [a-z]* NOT PROVED' "$copy/out" | sed 's/^rt: //; s/ NOT PROVED//' | tr '\n' ' ')
-    case " $refused" in
-    *" order "* | *" cases "*) echo "$one: refused by ${refused% }: $(grep -m1 -o '[a-z]*/[a-z]*/[A-Za-z]*.antt:[0-9:]* error: `[^`]*`' "$copy/out" || true)" ;;
-    *) echo "$one: NOT refused"; bad=1 ;;
-    esac
+    # `cases` stands on `order`: rt check proves first what is below, and stops at the first crate that is not proved
+    if (cd "$copy/crates/cases" && rt check) > "$copy/said" 2>&1; then
+        echo "$one: NOT refused"; bad=1
+    else
+        refused=$(awk '/^rt: chose --jobs [0-9]+ for / { crate = $NF } END { print crate }' "$copy/said")
+        case $refused in
+        order | cases) echo "$one: refused by $refused: $(grep -m1 -oE '^\./[^:]*\.antt:[0-9:]* error: `[^`]*`' "$copy/said" || true)" ;;
+        *) echo "$one: NOT refused by order or cases: ${refused:-nothing} stops"; bad=1 ;;
+        esac
+    fi
     rm -rf "$copy"
 done
 exit $bad

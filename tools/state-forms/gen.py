@@ -5,6 +5,7 @@ The program has the encoder's whole state in one form, the calls set_vertex_buff
 (layout path), a list of 4,096 commands, and a main that times them. README.md says what the forms
 and the options are. Names between @ in the texts below are filled in by the form and the options.
 """
+import re
 import sys
 
 FORMS = ('f1', 'f2', 'f3', 'f4', 'f5', 'f6')
@@ -22,6 +23,8 @@ OPTIONS = {  # the first value is the default
 # and Big gives it a size to go by, so that writing one costs about what it costs there.
 
 COMMON = """
+use std::io;
+use std::time::{Clock, Duration};
 pub struct Board { pub layout: bool, pub barriers: bool, pub instancing: bool, pub msrtt: bool }
 pub enum Phase { Closed, Open, Render, Compute }
 pub enum IndexFormat { Uint16, Uint32 }
@@ -449,10 +452,9 @@ fn run(list: &mut [Record], ops: &[u32; 64], n: u64, seed: u32, board: Board@fir
     let d0 = s.@V@dirty as u64;
     End { sum: c0 + d0 * 65536 + @a-word@, bad }
 }
-fn now() -> u64 {
-    let mut t = libc::types::timespec { tv_sec: 0, tv_nsec: 0 };
-    libc::clock_gettime(1, &mut t);
-    (t.tv_sec as u64) * 1000000000 + (t.tv_nsec as u64)
+fn now<C: Clock>(clock: &C) -> u64 {
+    let t = clock.monotonic().unwrap_or(Duration::ZERO);
+    t.as_nanos() as u64
 }
 fn op_of(mode: u32, k: u32) -> u32 {
     match mode {
@@ -479,8 +481,7 @@ fn weight(list: &[Record]) -> u64 {
     }
     w
 }
-fn main() {
-    let began = now();
+fn main(rt: HostRuntime) -> io::Result<()> {
     let board = Board { layout: true, barriers: false, instancing: false, msrtt: false };
     let mut list = [Record { command: Command::Nothing }; 4096];
     let n: u64 = 400000;
@@ -491,21 +492,19 @@ fn main() {
         while k < 64 { ops[k as usize] = op_of(mode, k); k += 1; }
         let mut r: u32 = 0;
         while r < 11 {
-            let a = now();
+            let a = now(&rt);
             @main-first@
             let e = run(&mut list, &ops, n, r, board@main-given@);
-            let b = now();
-            io::print_decimal(1, mode as u64); io::write_all(1, b" ");
-            io::print_decimal(1, b - a); io::write_all(1, b" ");
-            io::print_decimal(1, e.sum); io::write_all(1, b" ");
-            io::print_decimal(1, e.bad); io::write_all(1, b" ");
-            io::print_decimal(1, weight(&list)); io::write_all(1, b"\\n");
+            let b = now(&rt);
+            let took = b - a;
+            let heavy = weight(&list);
+            println!(rt; "{mode} {took} {} {} {heavy}", e.sum, e.bad)?;
             r += 1;
         }
         mode += 1;
     }
     @main-again@
-    io::print_decimal(1, n); io::write_all(1, b"\\n");
+    println!(rt; "{n}")
 }
 """
 
@@ -513,7 +512,7 @@ fn main() {
 # A second call of run, so that it is not inlined into main.
 RUN_AGAIN = """let no_ops: [u32; 64] = [0; 64];
     @again-first@let again = run(&mut list, &no_ops, 3, 1, board@again-given@);
-    if again.sum == 99 { io::write_all(1, b"odd"); }"""
+    if again.sum == 99 { println!(rt; "odd")?; }"""
 
 
 def program(form, order, set, draw, drive, start, loop, sites):
@@ -587,6 +586,7 @@ def program(form, order, set, draw, drive, start, loop, sites):
         for name, value in names.items():
             text = text.replace(f'@{name}@', value)
     assert '@' not in text
+    text = re.sub('(?m)^pub (struct|enum) ', r'#[derive(Clone, Copy)]\n\g<0>', text)
     return '\n'.join(line for line in text.split('\n') if line.strip()) + '\n'
 
 

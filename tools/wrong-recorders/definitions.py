@@ -24,25 +24,36 @@ def closing(text, start):
     sys.exit("definitions.py: a brace is not closed")
 
 
+def kept_use(item, body):
+    """A `use` item with the names alone that the body has; nothing where there is none."""
+    found = re.match(r"(?s)((?:pub )?use )(.*?)(?:::\{(.*)\})?;$", item)
+    head, path, many = found.groups()
+    names = [name.strip() for name in many.split(",") if name.strip()] if many else [path.split("::")[-1]]
+    there = [name for name in names if re.search(r"\b" + name.split(" as ")[-1] + r"\b", body)]
+    if not there:
+        return ""
+    return f"{head}{path}::{{{', '.join(there)}}};" if many else item
+
+
 def without_functions(text):
     text = re.sub(r"(?m)^\s*//.*\n", "", text)
     text = re.sub(r"//[^\n]*", "", text)
     text = re.sub(r"(?m)^ghost use [^;]*;\n", "", text)
     while found := re.search(r"(?m)^impl\b[^{]*\{", text):
         text = text[: found.start()] + text[closing(text, found.end() - 1) :]
-    while found := re.search(r"(?m)^[ \t]*(pub(\(crate\))?\s+)?(const\s+)?fn\s+\w+", text):
+    while found := re.search(r"(?m)^(?:[ \t]*#\[[^\n]*\]\n)*[ \t]*(pub(\(crate\))?\s+)?(const\s+)?fn\s+\w+", text):
         place = found.end()
         while True:
             brace = text.index("{", place)
             words = text[place:brace].split()
             place = closing(text, brace)
-            if not words or words[-1] not in CONTRACT:
+            # a clause, with or without a name; else the body
+            if not any(word in CONTRACT for word in words[-2:]):
                 break
         text = text[: found.start()] + text[place:]
-    lines = text.split("\n")
-    body = "\n".join(line for line in lines if not re.match(r"(pub )?use ", line))
-    used = lambda line: not (m := re.match(r"(?:pub )?use .*?(\w+);$", line)) or re.search(r"\b" + m.group(1) + r"\b", body)
-    return "\n".join(line for line in lines if used(line))
+    item = re.compile(r"(?m)^(?:pub )?use [^;]*;")
+    body = item.sub("", text)
+    return item.sub(lambda found: kept_use(found.group(0), body), text)
 
 
 def without_rows(folder):
