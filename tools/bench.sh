@@ -4,7 +4,7 @@
 # landed requests (request 6 sends less in immediate_16 and immediate_192; their commands are then shown as Rust/this); then the
 # figures: ns a turn of each side and the ratio of the medians. `taskset -c 1 tools/bench.sh` keeps it on one processor.
 #   --repeats N     starts of each program for each row: 7 if not given; a start has 60 runs of 4,000 turns
-#   --program PATH  a program that tools/native/build.py made from tools/bench
+#   --program PATH  a program that tools/native/build.py made from tools/bench, with --plain
 #   --before PATH   one more such program, of the library before a change: it takes turns with the others in the same run
 #   ROW...          only these rows
 # It needs a Rust compiler, as tools/oracle/README.md says, and `rt` on the path.

@@ -130,11 +130,12 @@ def edit(seed, source, plain, lists):
 def main():
     args = arguments()
     with tempfile.TemporaryDirectory() as folder:
-        program = recordings.built(args.program, os.path.join(HERE, "boards"), folder)
+        source = os.path.join(HERE, "boards")
         if args.times:
-            times.table(args.oracle, program, folder)
+            times.table(args.oracle, recordings.built(args.program, source, folder, "--plain"), folder)
         if args.end is None:
             return
+        program = recordings.built(args.program, source, folder)
         comparison = Comparison(program)
         compare(args, folder, comparison)
     of = lambda counter: ", ".join(f"{name} {n}" for name, n in sorted(counter.items()))

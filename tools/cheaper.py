@@ -43,7 +43,7 @@ def program(given, native, folder):
     """`cheaper_draws`: the one that is given, or the proved one, or built natively."""
     if native and not given:
         made = os.path.join(folder, "cheaper_draws")
-        if subprocess.run([sys.executable, os.path.join(HERE, "native", "build.py"), "cheaper_draws", made]).returncode:
+        if subprocess.run([sys.executable, os.path.join(HERE, "native", "build.py"), "cheaper_draws", made, "--plain"]).returncode:
             sys.exit(2)
         return made
     path = given or os.path.join(os.path.dirname(HERE), "crates", "cheaper_draws", "out", "cheaper_draws")

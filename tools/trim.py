@@ -165,12 +165,13 @@ def missing(comparison):
 def main():
     args = arguments()
     with tempfile.TemporaryDirectory() as folder:
-        program = recordings.built(args.program, os.path.join(HERE, "trim"), folder)
+        source = os.path.join(HERE, "trim")
         if args.times:
             import rates  # (tools/trim/rates.py)
-            rates.table(args.rust, program, folder)
+            rates.table(args.rust, recordings.built(args.program, source, folder, "--plain"), folder)
         if args.end is None:
             return
+        program = recordings.built(args.program, source, folder)
         comparison = Comparison(program)
         compare(args, folder, comparison)
     of = lambda counter, names: ", ".join(f"{name} {counter[name]}" for name in names)

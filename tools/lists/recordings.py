@@ -11,14 +11,14 @@ def stop(message):
     sys.exit(f"{os.path.basename(sys.argv[0]).removesuffix('.py')}: {message}")
 
 
-def built(given, source, folder):
-    """The program that source/build.sh makes, or the one that is given."""
+def built(given, source, folder, *options):
+    """The program that source/build.sh makes with these options, or the one that is given."""
     if given:
         if not os.access(given, os.X_OK):
             stop(f"no program {given}")
         return os.path.abspath(given)
-    made = os.path.join(folder, "program")
-    if subprocess.run([os.path.join(source, "build.sh"), made]).returncode:
+    made = os.path.join(folder, "program" + "".join(options))
+    if subprocess.run([os.path.join(source, "build.sh"), made, *options]).returncode:
         sys.exit(2)
     return made
 

@@ -1,7 +1,7 @@
 #!/usr/bin/env python3
 """copies.py PROGRAM INPUT TURNS [--each N]: how many bytes PROGRAM copies a turn, by function; INPUT is its standard input, TURNS
 the turns that it makes. Counted are calls of memcpy and memmove of 64 bytes and more, exactly, so other work on the machine
-does not matter. With --each also the N largest places of each function. PROGRAM is one that build.py made. Needs gcc and nm."""
+does not matter. With --each also the N largest places of each function. PROGRAM is one that build.py made with --plain. Needs gcc and nm."""
 import argparse
 import bisect
 import collections

@@ -10,9 +10,9 @@ cd "$dir"
 rm -rf source kept program program.*
 mkdir source
 cp main.rt source/main.rt.txt
-python3 "$here/../native/build.py" program program --source source --keep kept
+python3 "$here/../native/build.py" program program --source source --plain --keep kept
 mv kept/program.ll program.ll
 
 # The state is the largest value that `start` makes.
-sed -n '/^define.*::start"/,/^}/p' kept/plain.ll | sed -n 's/.*alloca \[\([0-9]*\) x i8\].*/\1/p' | sort -n | tail -n 1 >program.size
+sed -n '/^define.*::start"/,/^}/p' kept/program.in.ll | sed -n 's/.*alloca \[\([0-9]*\) x i8\].*/\1/p' | sort -n | tail -n 1 >program.size
 rm -rf source kept
