@@ -1,0 +1,11 @@
+-- `joining::join::copy_queries` meets its contract. Invariant: the first i numbers are written. Measure: the numbers left. Assumes nothing.
+use Prim.Native.Nat.{◌-◌}
+use lib.ListN.{get_or}
+use Rattle.walks.proofs.Fronts.{Front}
+use Rattle.joining.proofs.join.copy_queries.Given as goal
+
+abbrev pub invariant-loop-i : goal.invariant-loop-i
+invariant-loop-i l = Front (λ j. get_or l.other j 0) l.initial.queries l.at l.n l.queries l.i
+
+abbrev pub decreases-loop-i : goal.decreases-loop-i
+decreases-loop-i l = l.n - l.i
