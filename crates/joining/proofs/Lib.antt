@@ -5,7 +5,6 @@ pub mod Differing
 pub mod Fits
 pub mod Ranges
 pub mod Others
-pub mod Data
 pub mod Looking
 pub mod Sums
 pub mod Judging

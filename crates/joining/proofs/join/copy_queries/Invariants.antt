@@ -1,6 +1,4 @@
--- `joining::join::copy_queries` meets its contract. Invariant: the first i numbers are written. Measure: the numbers left. Assumes nothing.
-use Prim.Native.Nat.{◌-◌}
-use lib.ListN.{get_or}
+use Rattle.std.proofs.Common.{◌-◌, get_or}
 use Rattle.walks.proofs.Fronts.{Front}
 use Rattle.joining.proofs.join.copy_queries.Given as goal
 
