@@ -5,7 +5,6 @@ ghost use Rattle.std.proofs.Math.Seq.{paste};
 ghost use Rattle.records.specs.declared.command.Command.TheVariants.{PopDebugGroup};
 ghost use Rattle.walks.specs.Fill.{filled};
 ghost use Rattle.list_walks.specs.Map.{map_at};
-ghost use Rattle.joining.specs.Joined.{Floats};
 ghost use Rattle.joining.specs.Ending.{rest_by};
 ghost use Rattle.joining.specs.Joins.{record_of, lent, Joins};
 ghost use Rattle.joining.specs.Plan.{numbers_by, planned_of, reset_at, Allowed, moved_record, ListJoined, RunsFit, RunsJoined};
@@ -137,8 +136,7 @@ fn copy_moved(src: &[Record], n: usize, dst: &mut [Record], at: usize, plan: Joi
 
 // The answer, and what is to be written for it.
 fn plan_join(x: Asked, a: Looked, s: Surveyed) -> JoinPlan
-    ensures planned { result ≡ planned_of x a s }
-    ensures floats { Floats a.ending.blend }
+    ensures { result ≡ planned_of x a s }
 {
     let ending = a.ending;
     let n = resets_count(ending);
