@@ -1,12 +1,12 @@
 -- What the two halves of `join` do, the list and the runs of numbers, is what its contract says (specs/Joins.antt). Assumes nothing.
-use Prim.Native.Nat.{ℕ, suc, ◌+◌, ◌≤◌, min}
+use Prim.Native.Nat.{ℕ, suc, ◌+◌, ◌≤◌}
 use mathlib.Core.Path.{◌≡◌, refl, sym, ap, ap₂, ◌∙◌, subst}
 use mathlib.Core.Bool.{Bool, true, false, cond, ◌||◌}
 use mathlib.Core.List.{List, [], ◌∷◌, ◌++◌, map}
 use native.Mathlib.Omega.{arith}
 use lib.Dec.{ltb}
-use lib.ListN.{length, get_or, take, drop, length-map, length-take, take-append-drop}
-use lib.Seq.{length-take-le, take-append_seam, paste-zero}
+use lib.ListN.{length, get_or, take, drop, length-map, take-append-drop}
+use lib.Seq.{length-take-le, paste-zero}
 use Rattle.machine.proofs.Lists.{or_left, or_right, false-true}
 use Rattle.machine.specs.Machine.{fresh_gl}
 use Rattle.records.specs.Check.{some?}

@@ -1,4 +1,3 @@
-use Rattle.joining.specs.Plan.{RunsFit}
 use Rattle.joining.proofs.Planning.{runs_fit}
 use Rattle.joining.proofs.Contract.{runs_done}
 use Rattle.joining.proofs.join.join.Goals as goal

@@ -1,6 +1,6 @@
--- What a call hands back holds floats of its type: so the blend constants of the look are `f32`s.
+-- What a call hands back holds values of its types: the blend constants of the look are `f32`s.
 use Rattle.std.proofs.Common.{◌∙◌, refl, arith}
-use denote.Floats.{passes}
+use Rattle.std.specs.Bool.{passes}
 use Rattle.joining.specs.Joined.{Floats}
 use Rattle.joining.proofs.Planning.{plan-fits, plan-copies, plan-does}
 use Rattle.joining.proofs.join.join_list.Goals as goal
