@@ -1,13 +1,8 @@
--- Each draw of a lent run finds blend constants that are `f32`s: the fresh machine's are, and a record holds no others. Assumes nothing.
-use Prim.Native.Nat.{ℕ, zero, suc}
+-- Each draw of a lent run finds blend constants that are `f32`s: the fresh machine's are, and the records set no others. Assumes nothing.
 use mathlib.Core.Path.{◌≡◌, refl, sym, subst}
 use mathlib.Core.Bool.{Bool, true, false}
 use mathlib.Core.List.{List, [], ◌∷◌}
 use lib.Ieee.{fits, of_bits}
-use lib.ListN.{take}
-use denote.Floats.{passes}
-use Rattle.list_walks.proofs.Elements.{Good, Goods}
-use Rattle.records.specs.declared.command.ColorF32.{ColorF32}
 use Rattle.records.specs.declared.command.Command.{Command}
 use Rattle.records.specs.declared.command.Command.TheVariants.{Draw, DrawIndexed, DrawIndirect, DrawIndexedIndirect, Dispatch, DispatchIndirect, ClearBuffer, CopyBufferToBuffer}
 use Rattle.records.specs.declared.command.Command.TheVariants.{SetIndexBuffer, BeginQuery, EndQuery, TimestampQuery, CopyQueryResults, ResetFramebuffer, BindAttachment}
@@ -17,12 +12,13 @@ use Rattle.records.specs.declared.command.Command.TheVariants.{SetStencilOps, Se
 use Rattle.records.specs.declared.command.Command.TheVariants.{UnsetVertexAttribute, SetVertexBuffer, SetProgram, SetPrimitive, SetBlendConstant, SetColorTarget, BindBuffer}
 use Rattle.records.specs.declared.command.Command.TheVariants.{BindSampler, BindTexture, BindImage, PushDebugGroup, PopDebugGroup, SetImmediates, SetClipDistances}
 use Rattle.records.specs.declared.command.Record.{Record}
+use Rattle.machine.specs.Each.{Each}
 use Rattle.machine.specs.Machine.{Gl, fresh_gl}
 use Rattle.lists.specs.declared.limits.Used.{Used}
-use Rattle.lists.specs.Class.{class_of, draws, commands_of}
+use Rattle.lists.specs.Class.{class_of, draws}
+use Rattle.lists.specs.Floats.{SetsF32}
 use Rattle.lists.specs.Limits.{handed}
 use Rattle.lists.specs.Shots.{settings_after, shots_from}
-use Rattle.lists.proofs.Data.{element}
 use Rattle.boards.specs.Remains.{IsF32, OfEach, OfConstants, FindsF32}
 use Rattle.boards.proofs.Drawn.{at-draw, at_other}
 
@@ -33,13 +29,7 @@ fresh-fits : Fits fresh_gl
 unfolding fits of_bits
 fresh-fits = (tt, tt, tt, tt)
 
--- what a record with blend constants is made of: its command, the variant's one field, and the four floats of that
-color-fits : (x : ColorF32) → Good element.R (record { command = SetBlendConstant x }) → OfEach IsF32 x
-color-fits x e =
-    let color = e.1.1.0.1.1.1.1.0.1.1 in
-    (passes _ color.0.1, passes _ color.1.0.1, passes _ color.1.1.0.1, passes _ color.1.1.1.0.1)
-
-after-fits : (c : Command) (g : Gl) → Good element.R (record { command = c }) → Fits g → Fits (settings_after g c)
+after-fits : (c : Command) (g : Gl) → SetsF32 c → Fits g → Fits (settings_after g c)
 after-fits (Draw t fv vc fi ic l) g e f = f
 after-fits (DrawIndexed t ty n o bv fi ic l) g e f = f
 after-fits (DrawIndirect t raw o l) g e f = f
@@ -79,7 +69,7 @@ after-fits (UnsetVertexAttribute l) g e f = f
 after-fits (SetVertexBuffer i b d) g e f = f
 after-fits (SetProgram p) g e f = f
 after-fits (SetPrimitive p) g e f = f
-after-fits (SetBlendConstant x) g e f = color-fits x e
+after-fits (SetBlendConstant x) g e f = e x refl
 after-fits (SetColorTarget i t) g e f = f
 after-fits (BindBuffer t i b o n) g e f = f
 after-fits (BindSampler i x) g e f = f
@@ -90,23 +80,16 @@ after-fits PopDebugGroup g e f = f
 after-fits (SetImmediates d o) g e f = f
 after-fits (SetClipDistances old n) g e f = f
 
-draws-fit : (n : ℕ) (l : List Record) (g : Gl) → Goods element.R l → Fits g → OfConstants IsF32 (shots_from g (commands_of (take n l)))
+draws-fit : (cs : List Command) (g : Gl) → Each SetsF32 cs → Fits g → OfConstants IsF32 (shots_from g cs)
 unfolding shots_from
-draws-fit zero l g e f = tt
-draws-fit (suc n) [] g e f = tt
-draws-fit (suc n) (x ∷ l) g e f = go (draws (class_of c)) refl (draws-fit n l (settings_after g c) e.1 (after-fits c g e.0 f))
+draws-fit [] g e f = tt
+draws-fit (c ∷ cs) g e f = go (draws (class_of c)) refl (draws-fit cs (settings_after g c) e.1 (after-fits c g e.0 f))
   where
-    c : Command
-    c = x.command
-
-    cs : List Command
-    cs = commands_of (take n l)
-
     go : (t : Bool) → draws (class_of c) ≡ t → OfConstants IsF32 (shots_from (settings_after g c) cs) → OfConstants IsF32 (shots_from g (c ∷ cs))
     go true h rest =
         let a = at-draw g c cs h in
         subst (OfConstants IsF32) (sym a.2) (subst Fits (sym a.1) f, rest)
     go false h rest = subst (OfConstants IsF32) (sym (at_other g c cs h)) rest
 
-pub finds-f32 : (l : List Record) (u : Used) → Goods element.R l → FindsF32 (handed l u)
-finds-f32 l u e = draws-fit u.commands l fresh_gl e fresh-fits
+pub finds-f32 : (l : List Record) (u : Used) → Each SetsF32 (handed l u).commands → FindsF32 (handed l u)
+finds-f32 l u e = draws-fit (handed l u).commands fresh_gl e fresh-fits

@@ -1,11 +1,6 @@
-pub mod Long
 pub mod Sums
 pub mod Floats
 pub mod StillUnequal
-pub mod Unset
-pub mod Data
-pub mod Picked
-pub mod Turning
 pub mod Sees
 pub mod Drawn
 pub mod Finding

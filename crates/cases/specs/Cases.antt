@@ -1,5 +1,5 @@
 -- Document 01's cases by computation, as rows of one table: after the calls before it, what the last call answers and records. Assumes nothing.
-use Rattle.std.specs.Prelude.{ℕ, ◌≡◌, refl, Bool, true, false, ◌&&◌, List, [], ◌∷◌, ◌++◌, map, ℤ, pos, negsuc, Float, replicate}
+use Rattle.std.specs.Prelude.{ℕ, ◌≡◌, refl, Bool, true, false, ◌&&◌, List, [], ◌∷◌, ◌++◌, map, ℤ, pos, negsuc, replicate}
 use Rattle.std.specs.Float.{binary32, binary64}
 use Rattle.std.specs.Float.Ieee.{of_bits, round}
 use Rattle.mask.specs.Mask.{test_bit, bit_at, set_bit, without, mask_of, places_from}
@@ -40,7 +40,7 @@ use Rattle.bindings.specs.Units.{sampler_commands}
 use Rattle.pipeline.specs.Inner.{changed_units}
 use Rattle.pipeline.specs.Fixed.{same_targets, all_same, each_target}
 use Rattle.pass.specs.Render.{no_place, full_depth, begin_render_commands, attach_colors, resolves_from, invalidations, clear_colors}
-use Rattle.calls.specs.Call.{Call, begin_render_pass, end_render_pass, begin_compute_pass, end_compute_pass, set_immediates, set_render_pipeline, set_vertex_buffer, set_viewport, set_scissor_rect, set_stencil_reference, draw, draw_indirect, dispatch_workgroups}
+use Rattle.calls.specs.Call.{Call, begin_render_pass, end_render_pass, begin_compute_pass, end_compute_pass, set_immediates, set_render_pipeline, set_vertex_buffer, set_viewport, set_scissor_rect, set_stencil_reference, draw_indirect, dispatch_workgroups}
 use Rattle.calls.specs.Draws.{indirect_commands}
 use Rattle.calls.specs.Step.{step, outcome_of}
 use Rattle.book.specs.Book.{Fed}

@@ -47,8 +47,8 @@ use Rattle.pipeline.specs.Vertex.{no_layout}
 use Rattle.pass.specs.Marks.{Label}
 use Rattle.pass.specs.Render.{no_place}
 use Rattle.calls.specs.Call.{QuerySet, Call, begin_render_pass, begin_compute_pass, end_compute_pass, set_bind_group, set_render_pipeline, set_vertex_buffer, set_compute_pipeline}
-use Rattle.cases.specs.Samples.{padded, board, lent, no_queries, no_label, by_vertex, attribute, takes, inner_of, pipeline_of, pipeline, entry, bind_group, viewed, pass, bare_pass, bound}
-use Rattle.cases.specs.Cases.{with, float, black}
+use Rattle.cases.specs.Samples.{padded, board, lent, no_queries, no_label, by_vertex, attribute, takes, inner_of, pipeline_of, pipeline, entry, bind_group, viewed, pass, bare_pass}
+use Rattle.cases.specs.Cases.{float, black}
 
 -- ---- what the rows begin with
 -- with MULTISAMPLED_RENDER_TO_TEXTURE; without MEMORY_BARRIERS

@@ -9,13 +9,11 @@ use Rattle.tables.specs.Tabulate.{tabulate}
 use Rattle.numbers.specs.Convert.{clamp_to, convert_to}
 use Rattle.records.specs.Outcome.{smallest}
 use Rattle.records.specs.Check.{some?, bad_units, among, twice}
-use Rattle.records.specs.declared.args.Buffer.{Buffer}
 use Rattle.records.specs.declared.binding.BindingType.TheVariants as type
 use Rattle.records.specs.declared.binding.BufferBindingType.TheVariants.{Uniform, Storage}
 use Rattle.records.specs.declared.binding.RawBinding.TheVariants as content
 use Rattle.records.specs.declared.command.Command.TheVariants.{Draw, DrawIndexed, DrawIndirect, DrawIndexedIndirect, Dispatch, DispatchIndirect, ClearBuffer, CopyBufferToBuffer, SetIndexBuffer, BeginQuery, EndQuery, TimestampQuery, CopyQueryResults, ResetFramebuffer, BindAttachment, ResolveAttachment, InvalidateAttachments, SetDrawColorBuffers, ClearColorF, ClearColorI, ClearDepth, ClearStencil, BufferBarrier, TextureBarrier, SetViewport, SetScissor, SetStencilFunc, SetStencilOps, SetDepth, ConfigureDepthStencil, SetAlphaToCoverage, SetVertexAttribute, UnsetVertexAttribute, SetProgram, SetBlendConstant, SetColorTarget, BindBuffer, BindSampler, BindTexture, BindImage, PushDebugGroup, PopDebugGroup, SetImmediates, SetClipDistances}
 use Rattle.records.specs.declared.command.OptionU32.TheVariants.{None, Some}
-use Rattle.records.specs.declared.command.TextureInner.TheVariants.{Texture}
 use Rattle.records.specs.declared.command.VertexStepMode.TheVariants.{Vertex, Instance}
 use Rattle.records.specs.declared.pass.OptionDepthStencil.TheVariants as target
 use Rattle.records.specs.declared.pass.OptionTimestampWrites.TheVariants as writes
@@ -34,7 +32,7 @@ use Rattle.calls.specs.Draws.{indirect_commands, indexed_indirect_commands}
 use Rattle.calls.specs.Transfers.{barriers_of, buffer_barrier_commands, texture_uses, copies_of}
 use Rattle.calls.specs.Step.{outcome_of}
 use Rattle.book.specs.Run.{record_calls, fed}
-use Rattle.cases.specs.Samples.{board, emulated, full, bare, lent, no_queries, no_label, by_vertex, by_instance, attribute, pipeline, entry, bind_group, A, B, fetching, filled, pass, bare_pass, draw_at, rect, drawn, bound}
+use Rattle.cases.specs.Samples.{emulated, full, bare, lent, no_queries, no_label, by_vertex, by_instance, attribute, pipeline, entry, bind_group, A, B, fetching, filled, pass, bare_pass, draw_at, rect, drawn, bound}
 use Rattle.cases.specs.Cases.{Case, seen, said, all_accepted, records, refused, with, masked, differing, float, default, external, depth_stencil, colour, black, extents}
 use Rattle.cases.specs.EdgeSamples.{multisampled, unsynchronized, sint, into, into_buffer, depth_alone, stencil_alone, pass_by, half, deep, resolved, resolving, two_queries, many_queries, labelled, full_bytes, marked, compute, last_slot, attributed, stepping, fetched, at_offset, special, keeps, face, two_faced, both_units, unit_4, computing, counting, located, taking, described, sending, buffer, texture, image, sampler, bind_one, shape, grouped, vertices, indices, no_buffer, triangles, cleared, extent}
 

@@ -13,6 +13,7 @@ use flat::cursor::is_right;
 use played::print::{flush, put_error};
 use sessions::input::{Input, MAX_TURNS, line_number, new_input, next_line, turns_left};
 use sessions::verdict::{played_length, verdict};
+use std::io::{Read, Write};
 
 // Where the reading stands, how much of the output buffer is used, and whether there is more.
 #[derive(Clone, Copy)]
@@ -23,25 +24,31 @@ struct Place {
 }
 
 // What is printed for a line that is right.
-fn put_answer(out: &mut [u8], used: usize, q: Question) -> usize {
+fn put_answer<W: Write>(writer: &mut W, out: &mut [u8], used: usize, q: Question) -> usize {
     let pieces = q.pieces;
     let r = cheaper_order(pieces, q.budget);
-    put_cheaper(out, used, r, pieces.count)
+    put_cheaper(writer, out, used, r, pieces.count)
 }
 
 // After a line: its answer, or what is wrong with it.
-fn after_line(out: &mut [u8], used: usize, input: Input, q: Question) -> Place {
+fn after_line<W: Write>(
+    writer: &mut W,
+    out: &mut [u8],
+    used: usize,
+    input: Input,
+    q: Question,
+) -> Place {
     let past = q.next;
     let wrong = verdict(input.long, input.length, past);
     if is_right(wrong) {
-        let told = put_answer(out, used, q);
+        let told = put_answer(writer, out, used, q);
         return Place {
             input,
             used: told,
             more: true,
         };
     }
-    let told = put_error(out, used, line_number(input), wrong);
+    let told = put_error(writer, out, used, line_number(input), wrong);
     Place {
         input,
         used: told,
@@ -49,9 +56,16 @@ fn after_line(out: &mut [u8], used: usize, input: Input, q: Question) -> Place {
     }
 }
 
-fn one_line(buffer: &mut [u8], line: &mut [u8], out: &mut [u8], at: Place) -> Place {
+fn one_line<R: Read, W: Write>(
+    reader: &mut R,
+    buffer: &mut [u8],
+    line: &mut [u8],
+    writer: &mut W,
+    out: &mut [u8],
+    at: Place,
+) -> Place {
     let before = at.input;
-    let input = next_line(buffer, line, before);
+    let input = next_line(reader, buffer, line, before);
     if !input.there {
         return Place {
             input,
@@ -61,12 +75,14 @@ fn one_line(buffer: &mut [u8], line: &mut [u8], out: &mut [u8], at: Place) -> Pl
     }
     let n = played_length(input.long, input.length, line.len());
     let q = take_question(&line[..n]);
-    after_line(out, at.used, input, q)
+    after_line(writer, out, at.used, input, q)
 }
 
 // A right line has at most 12,685 characters: a budget of ten digits, a count of two, and 64 times
 // eighteen numbers of ten, one blank between two. `line` holds 16,384.
-fn main() {
+fn main(rt: HostRuntime) {
+    let mut reader = rt.stdin();
+    let mut writer = rt.stdout();
     let mut buffer = [0u8; 65536];
     let mut line = [0u8; 16384];
     let mut out = [0u8; 65536];
@@ -77,8 +93,15 @@ fn main() {
     };
     let mut turns = MAX_TURNS;
     while 0 < turns {
-        at = one_line(&mut buffer, &mut line, &mut out, at);
+        at = one_line(
+            &mut reader,
+            &mut buffer,
+            &mut line,
+            &mut writer,
+            &mut out,
+            at,
+        );
         turns = turns_left(turns, !at.more);
     }
-    flush(&out, at.used);
+    flush(&mut writer, &out, at.used);
 }

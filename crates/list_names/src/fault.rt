@@ -3,6 +3,7 @@ use crate::kinds::{Field, Kind, field_count, field_of, is_command};
 use crate::words::{Word, first_word, next_word, text};
 use flat::cursor::{is_right, start, take_u32};
 use played::print::{put, put_number};
+use std::io::Write;
 
 #[derive(Clone, Copy)]
 pub(crate) enum Expected {
@@ -101,25 +102,36 @@ pub(crate) fn fault_of(line: &[u8], long: bool, kind: Kind) -> Fault {
     expect(0, Expected::Nothing)
 }
 
-fn put_expected(out: &mut [u8], used: usize, expected: Expected) -> usize {
+fn put_expected<W: Write>(
+    writer: &mut W,
+    out: &mut [u8],
+    used: usize,
+    expected: Expected,
+) -> usize {
     match expected {
         Expected::Nothing => used,
-        Expected::Number => put(out, used, b"a number from 0 to 4294967295"),
-        Expected::Word => put(out, used, b"a word"),
-        Expected::End => put(out, used, b"the end of the line"),
+        Expected::Number => put(writer, out, used, b"a number from 0 to 4294967295"),
+        Expected::Word => put(writer, out, used, b"a word"),
+        Expected::End => put(writer, out, used, b"the end of the line"),
     }
 }
 
 // Lines and characters are counted from 1.
-pub(crate) fn put_fault(out: &mut [u8], used: usize, line: u64, f: Fault) -> usize {
+pub(crate) fn put_fault<W: Write>(
+    writer: &mut W,
+    out: &mut [u8],
+    used: usize,
+    line: u64,
+    f: Fault,
+) -> usize {
     let expected = f.expected;
-    let said = put(out, used, b"error: line ");
-    let numbered = put_number(out, said, line);
-    let wanted = put(out, numbered, b": expected ");
-    let told = put_expected(out, wanted, expected);
-    let placed = put(out, told, b" at character ");
-    let at = put_number(out, placed, place_of(f.at));
-    put(out, at, b"\n")
+    let said = put(writer, out, used, b"error: line ");
+    let numbered = put_number(writer, out, said, line);
+    let wanted = put(writer, out, numbered, b": expected ");
+    let told = put_expected(writer, out, wanted, expected);
+    let placed = put(writer, out, told, b" at character ");
+    let at = put_number(writer, out, placed, place_of(f.at));
+    put(writer, out, at, b"\n")
 }
 
 fn place_of(at: usize) -> u64 {

@@ -12,6 +12,7 @@ use crate::shown::show;
 use played::print::flush;
 use records::check::within;
 use sessions::input::{Input, MAX_TURNS, new_input, next_line, turns_left};
+use std::io::{Read, Write};
 
 // Where the reading stands, how much of the output buffer is used, and whether there is more.
 #[derive(Clone, Copy)]
@@ -21,9 +22,16 @@ struct Place {
     more: bool,
 }
 
-fn one_line(buffer: &mut [u8], line: &mut [u8], out: &mut [u8], at: Place) -> Place {
+fn one_line<R: Read, W: Write>(
+    reader: &mut R,
+    buffer: &mut [u8],
+    line: &mut [u8],
+    writer: &mut W,
+    out: &mut [u8],
+    at: Place,
+) -> Place {
     let before = at.input;
-    let input = next_line(buffer, line, before);
+    let input = next_line(reader, buffer, line, before);
     if !input.there {
         return Place {
             input,
@@ -32,7 +40,7 @@ fn one_line(buffer: &mut [u8], line: &mut [u8], out: &mut [u8], at: Place) -> Pl
         };
     }
     let n = within(input.length, line.len());
-    let shown = show(out, at.used, &line[..n], input.long, input.number);
+    let shown = show(writer, out, at.used, &line[..n], input.long, input.number);
     Place {
         input,
         used: shown.used,
@@ -41,7 +49,9 @@ fn one_line(buffer: &mut [u8], line: &mut [u8], out: &mut [u8], at: Place) -> Pl
 }
 
 // No line that `script` prints and that is shown has more than 130 characters; `line` holds 512.
-fn main() {
+fn main(rt: HostRuntime) {
+    let mut reader = rt.stdin();
+    let mut writer = rt.stdout();
     let mut buffer = [0u8; 65536];
     let mut line = [0u8; 512];
     let mut out = [0u8; 65536];
@@ -52,8 +62,15 @@ fn main() {
     };
     let mut turns = MAX_TURNS;
     while 0 < turns {
-        at = one_line(&mut buffer, &mut line, &mut out, at);
+        at = one_line(
+            &mut reader,
+            &mut buffer,
+            &mut line,
+            &mut writer,
+            &mut out,
+            at,
+        );
         turns = turns_left(turns, !at.more);
     }
-    flush(&out, at.used);
+    flush(&mut writer, &out, at.used);
 }

@@ -6,66 +6,104 @@ use flat::cursor::{start, take_u32};
 use name_reads::word::{Map, read_word};
 use played::print::put;
 use records::check::within;
+use std::io::Write;
 
 // The first `length` bytes.
-fn put_first(out: &mut [u8], used: usize, bytes: &[u8], length: usize) -> usize {
+fn put_first<W: Write>(
+    writer: &mut W,
+    out: &mut [u8],
+    used: usize,
+    bytes: &[u8],
+    length: usize,
+) -> usize {
     let n = within(length, bytes.len());
-    put(out, used, &bytes[..n])
+    put(writer, out, used, &bytes[..n])
 }
 
 // A number by its name; where it has none, as it stands.
-fn put_read(out: &mut [u8], used: usize, digits: &[u8], map: Map) -> usize {
+fn put_read<W: Write>(
+    writer: &mut W,
+    out: &mut [u8],
+    used: usize,
+    digits: &[u8],
+    map: Map,
+) -> usize {
     let taken = take_u32(digits, start());
     let word = read_word(map, taken.value);
     let bytes = word.bytes;
     if word.length == 0 {
-        return put(out, used, digits);
+        return put(writer, out, used, digits);
     }
-    put_first(out, used, &bytes, word.length)
+    put_first(writer, out, used, &bytes, word.length)
 }
 
-fn put_field(out: &mut [u8], used: usize, word: &[u8], field: Field) -> usize {
+fn put_field<W: Write>(
+    writer: &mut W,
+    out: &mut [u8],
+    used: usize,
+    word: &[u8],
+    field: Field,
+) -> usize {
     match field {
-        Field::Kept => put(out, used, word),
-        Field::Read(map) => put_read(out, used, word, map),
+        Field::Kept => put(writer, out, used, word),
+        Field::Read(map) => put_read(writer, out, used, word, map),
     }
 }
 
 // The fields of a command after its name, a blank before each, and the end of the line.
-fn put_fields(out: &mut [u8], used: usize, line: &[u8], name: Word, kind: Kind) -> usize {
+fn put_fields<W: Write>(
+    writer: &mut W,
+    out: &mut [u8],
+    used: usize,
+    line: &[u8],
+    name: Word,
+    kind: Kind,
+) -> usize {
     let count = field_count(kind);
     let mut at = used;
     let mut w = name;
     let mut k = 0;
     while k < count {
         w = next_word(line, w);
-        at = put(out, at, b" ");
-        at = put_field(out, at, text(line, w), field_of(kind, k));
+        at = put(writer, out, at, b" ");
+        at = put_field(writer, out, at, text(line, w), field_of(kind, k));
         k += 1;
     }
-    put(out, at, b"\n")
+    put(writer, out, at, b"\n")
 }
 
 // The line of a command, in which nothing is wrong.
-fn put_command(out: &mut [u8], used: usize, line: &[u8], kind: Kind) -> usize {
+fn put_command<W: Write>(
+    writer: &mut W,
+    out: &mut [u8],
+    used: usize,
+    line: &[u8],
+    kind: Kind,
+) -> usize {
     let number = first_word(line);
     let name = next_word(line, number);
-    let numbered = put(out, used, text(line, number));
-    let blank = put(out, numbered, b" ");
-    let named = put(out, blank, text(line, name));
-    put_fields(out, named, line, name, kind)
+    let numbered = put(writer, out, used, text(line, number));
+    let blank = put(writer, out, numbered, b" ");
+    let named = put(writer, out, blank, text(line, name));
+    put_fields(writer, out, named, line, name, kind)
 }
 
-fn put_whole(out: &mut [u8], used: usize, line: &[u8]) -> usize {
-    let at = put(out, used, line);
-    put(out, at, b"\n")
+fn put_whole<W: Write>(writer: &mut W, out: &mut [u8], used: usize, line: &[u8]) -> usize {
+    let at = put(writer, out, used, line);
+    put(writer, out, at, b"\n")
 }
 
-fn put_kind(out: &mut [u8], used: usize, line: &[u8], kind: Kind) -> usize {
+fn put_kind<W: Write>(
+    writer: &mut W,
+    out: &mut [u8],
+    used: usize,
+    line: &[u8],
+    kind: Kind,
+) -> usize {
     if is_command(kind) {
-        return put_command(out, used, line, kind);
+        return put_command(writer, out, used, line, kind);
     }
-    put_whole(out, used, line)
+    put_whole(writer, out, used, line)
 }
 
 // How much of the output buffer is used, and whether the line is right.
@@ -76,20 +114,27 @@ pub(crate) struct Shown {
 }
 
 // A line and its number; `long`: it does not end here.
-pub(crate) fn show(out: &mut [u8], used: usize, line: &[u8], long: bool, number: u64) -> Shown {
+pub(crate) fn show<W: Write>(
+    writer: &mut W,
+    out: &mut [u8],
+    used: usize,
+    line: &[u8],
+    long: bool,
+    number: u64,
+) -> Shown {
     let kind = kind_of(line);
     if is_dropped(kind) {
         return Shown { used, right: true };
     }
     let fault = fault_of(line, long, kind);
     if is_none(fault) {
-        let told = put_kind(out, used, line, kind);
+        let told = put_kind(writer, out, used, line, kind);
         return Shown {
             used: told,
             right: true,
         };
     }
-    let told = put_fault(out, used, number, fault);
+    let told = put_fault(writer, out, used, number, fault);
     Shown {
         used: told,
         right: false,

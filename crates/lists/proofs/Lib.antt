@@ -2,5 +2,5 @@ pub mod Kept
 pub mod Played
 pub mod Laws
 pub mod Tags
-pub mod Judged
 pub mod Surveying
+pub mod Floats

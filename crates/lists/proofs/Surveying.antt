@@ -79,7 +79,7 @@ folded s i (x ∷ l) =
     })
 
 -- looking at the used records that are there is looking at the used ones
-taken : (n : ℕ) (l : List Record) → take (min n (length l)) l ≡ take n l
+pub taken : (n : ℕ) (l : List Record) → take (min n (length l)) l ≡ take n l
 taken n l =
     ap (λ (m : ℕ). take m l) (sym (length-take n l)) ∙ ap (take (length (take n l))) (sym (take-append-drop n l)) ∙ take-append_seam (take n l) (drop n l)
 

@@ -4,3 +4,4 @@ pub mod Shots
 pub mod Things
 pub mod Limits
 pub mod Survey
+pub mod Floats

@@ -2,8 +2,11 @@
 // The contracts cite specs/Limits.antt.
 ghost use Rattle.std.specs.Prelude.{◌≡◌, ◌+◌, ◌^◌, ◌≤◌, ◌<◌, length};
 ghost use Rattle.list_walks.specs.Fold.{fold_at, part};
+ghost use Rattle.machine.specs.Each.{Each};
+ghost use Rattle.lists.specs.Class.{commands_of};
+ghost use Rattle.lists.specs.Floats.{SetsF32};
 ghost use Rattle.lists.specs.Limits.{keeps as keeps_of, too_many, out_of_range, beyond_run, reversed as reversed_of, bad_target, bad_attachment};
-ghost use Rattle.lists.specs.Limits.{query_breaks, marker_breaks, immediate_breaks, breaks, either_breaks, over_counts, broken, refusal_of};
+ghost use Rattle.lists.specs.Limits.{query_breaks, marker_breaks, immediate_breaks, breaks, either_breaks, over_counts, handed, broken, refusal_of};
 ghost use Rattle.lists.specs.Survey.{looked_at, first_survey, survey_record, survey_of};
 
 use crate::class::{class_of, is_draw};
@@ -204,7 +207,8 @@ pub fn first_survey(used: Used, room: usize) -> Surveyed
 // What is known after one more record.
 pub fn survey_record(s: Surveyed, i: usize, x: Record) -> Surveyed
     requires { s.draws + 1 < 2 ^ 64 }
-    ensures { result ≡ survey_record s i x }
+    ensures survey { result ≡ survey_record s i x }
+    ensures floats { SetsF32 x.command }
 {
     let command = x.command;
     let used = s.used;
@@ -223,7 +227,8 @@ pub fn survey_record(s: Surveyed, i: usize, x: Record) -> Surveyed
 // What is known after the records from place `from` up to `to`.
 pub fn survey_between(list: &[Record], from: usize, to: usize, acc: Surveyed) -> Surveyed
     requires { (from ≤ to) × (to ≤ length list.now) × (acc.draws ≤ from) }
-    ensures { result ≡ fold_at survey_record acc from (part list.now from to) }
+    ensures survey { result ≡ fold_at survey_record acc from (part list.now from to) }
+    ensures floats { Each SetsF32 (commands_of (part list.now from to)) }
 {
     let mut a = acc;
     let mut i = from;
@@ -237,7 +242,8 @@ pub fn survey_between(list: &[Record], from: usize, to: usize, acc: Surveyed) ->
 
 // The check of a handed-in list, and its draws: those of the used records that are there.
 pub fn survey(list: &[Record], used: Used) -> Surveyed
-    ensures { result ≡ survey_of list.now used }
+    ensures survey { result ≡ survey_of list.now used }
+    ensures floats { Each SetsF32 (handed list.now used).commands }
 {
     let room = list.len();
     let n = looked_at(used, room);

@@ -11,7 +11,7 @@ use Rattle.records.specs.declared.state.State.{State}
 use Rattle.pass.specs.Marks.{Lent, Label}
 use Rattle.calls.specs.Call.{Call, begin_encoding, begin_render_pass, set_render_pipeline, set_vertex_buffer, draw, end_render_pass, end_encoding}
 use Rattle.calls.specs.Did.{Runs, Did, Keeps, Lists, Marks}
-use Rattle.book.specs.Ran.{Ran, done, then}
+use Rattle.book.specs.Ran.{done, then}
 use Rattle.one_pass.specs.Script.{pass_of, runs_of, last_outcome, Records}
 
 -- a call from the state that the one before handed back

@@ -11,8 +11,10 @@ use single_calls::barriers::plan_transition_textures;
 use single_calls::dispatches::{
     plan_clear_buffer, plan_dispatch_workgroups, plan_dispatch_workgroups_indirect,
 };
+use std::io::Write;
 
-pub(crate) fn play_dispatch_workgroups(
+pub(crate) fn play_dispatch_workgroups<W: Write>(
+    writer: &mut W,
     out: &mut [u8],
     output: Output,
     room: usize,
@@ -24,10 +26,11 @@ pub(crate) fn play_dispatch_workgroups(
     let a = dispatch_line(line, c);
     let next = a.next;
     let plan = plan_dispatch_workgroups(room, caps, s, a.x, a.y, a.z);
-    played_one(out, output, plan, s, next)
+    played_one(writer, out, output, plan, s, next)
 }
 
-pub(crate) fn play_dispatch_workgroups_indirect(
+pub(crate) fn play_dispatch_workgroups_indirect<W: Write>(
+    writer: &mut W,
     out: &mut [u8],
     output: Output,
     room: usize,
@@ -40,10 +43,11 @@ pub(crate) fn play_dispatch_workgroups_indirect(
     let buffer = a.buffer;
     let next = a.next;
     let plan = plan_dispatch_workgroups_indirect(room, caps, s, buffer.raw, a.offset);
-    played_one(out, output, plan, s, next)
+    played_one(writer, out, output, plan, s, next)
 }
 
-pub(crate) fn play_clear_buffer(
+pub(crate) fn play_clear_buffer<W: Write>(
+    writer: &mut W,
     out: &mut [u8],
     output: Output,
     room: usize,
@@ -57,10 +61,11 @@ pub(crate) fn play_clear_buffer(
     let range = a.range;
     let next = a.next;
     let plan = plan_clear_buffer(room, caps, s, buffer, range);
-    played_one(out, output, plan, s, next)
+    played_one(writer, out, output, plan, s, next)
 }
 
-pub(crate) fn play_transition_textures(
+pub(crate) fn play_transition_textures<W: Write>(
+    writer: &mut W,
     out: &mut [u8],
     output: Output,
     room: usize,
@@ -74,5 +79,5 @@ pub(crate) fn play_transition_textures(
     let past = a.next;
     let next = closed(line, past);
     let plan = plan_transition_textures(&numbers, room, a.count, caps, s);
-    played_one(out, output, plan, s, next)
+    played_one(writer, out, output, plan, s, next)
 }

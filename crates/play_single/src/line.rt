@@ -15,9 +15,11 @@ use played::Played;
 use played::print::Output;
 use records::pipeline::PrivateCapabilities;
 use records::state::State;
+use std::io::Write;
 
 // Codes 11 to 14.
-fn play_query(
+fn play_query<W: Write>(
+    writer: &mut W,
     out: &mut [u8],
     output: Output,
     room: usize,
@@ -28,15 +30,16 @@ fn play_query(
     s: State,
 ) -> Played {
     match code {
-        11 => play_begin_query(out, output, room, line, c, caps, s),
-        12 => play_end_query(out, output, room, line, c, caps, s),
-        13 => play_write_timestamp(out, output, room, line, c, caps, s),
+        11 => play_begin_query(writer, out, output, room, line, c, caps, s),
+        12 => play_end_query(writer, out, output, room, line, c, caps, s),
+        13 => play_write_timestamp(writer, out, output, room, line, c, caps, s),
         _ => play_reset_queries(output, line, c, caps, s),
     }
 }
 
 // Codes 19 to 22, and 24.
-fn play_setting(
+fn play_setting<W: Write>(
+    writer: &mut W,
     out: &mut [u8],
     output: Output,
     room: usize,
@@ -47,16 +50,17 @@ fn play_setting(
     s: State,
 ) -> Played {
     match code {
-        19 => play_set_index_buffer(out, output, room, line, c, caps, s),
+        19 => play_set_index_buffer(writer, out, output, room, line, c, caps, s),
         20 => play_set_vertex_buffer(output, line, c, caps, s),
-        21 => play_set_viewport(out, output, room, line, c, caps, s),
-        22 => play_set_scissor_rect(out, output, room, line, c, caps, s),
-        _ => play_set_blend_constants(out, output, room, line, c, caps, s),
+        21 => play_set_viewport(writer, out, output, room, line, c, caps, s),
+        22 => play_set_scissor_rect(writer, out, output, room, line, c, caps, s),
+        _ => play_set_blend_constants(writer, out, output, room, line, c, caps, s),
     }
 }
 
 // Codes 0, 1, 7, 8, 29 and 30.
-fn play_other(
+fn play_other<W: Write>(
+    writer: &mut W,
     out: &mut [u8],
     output: Output,
     room: usize,
@@ -69,15 +73,16 @@ fn play_other(
     match code {
         0 => play_begin_encoding(output, line, c, caps, s),
         1 => play_end_encoding(output, line, c, caps, s),
-        7 => play_transition_textures(out, output, room, line, c, caps, s),
-        8 => play_clear_buffer(out, output, room, line, c, caps, s),
-        29 => play_dispatch_workgroups(out, output, room, line, c, caps, s),
-        _ => play_dispatch_workgroups_indirect(out, output, room, line, c, caps, s),
+        7 => play_transition_textures(writer, out, output, room, line, c, caps, s),
+        8 => play_clear_buffer(writer, out, output, room, line, c, caps, s),
+        29 => play_dispatch_workgroups(writer, out, output, room, line, c, caps, s),
+        _ => play_dispatch_workgroups_indirect(writer, out, output, room, line, c, caps, s),
     }
 }
 
 // Codes 0, 1, 7, 8, 11 to 14, 19 to 22, 24, 29 and 30.
-pub fn play_single(
+pub fn play_single<W: Write>(
+    writer: &mut W,
     out: &mut [u8],
     output: Output,
     room: usize,
@@ -88,8 +93,8 @@ pub fn play_single(
     s: State,
 ) -> Played {
     match code {
-        11..=14 => play_query(out, output, room, line, c, code, caps, s),
-        19..=24 => play_setting(out, output, room, line, c, code, caps, s),
-        _ => play_other(out, output, room, line, c, code, caps, s),
+        11..=14 => play_query(writer, out, output, room, line, c, code, caps, s),
+        19..=24 => play_setting(writer, out, output, room, line, c, code, caps, s),
+        _ => play_other(writer, out, output, room, line, c, code, caps, s),
     }
 }

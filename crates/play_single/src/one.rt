@@ -5,16 +5,24 @@ use played::Played;
 use played::print::{Output, put_command};
 use records::state::State;
 use single_calls::one::{One, OnePlan, one_answer, one_command};
+use std::io::Write;
 
-fn put_one(out: &mut [u8], output: Output, batch: One, right: bool) -> Output {
+fn put_one<W: Write>(
+    writer: &mut W,
+    out: &mut [u8],
+    output: Output,
+    batch: One,
+    right: bool,
+) -> Output {
     if right & (0 < batch.n) {
         let c = one_command(batch, 0);
-        return put_command(out, output, batch.at as u64, c);
+        return put_command(writer, out, output, batch.at as u64, c);
     }
     output
 }
 
-pub(crate) fn played_one(
+pub(crate) fn played_one<W: Write>(
+    writer: &mut W,
     out: &mut [u8],
     output: Output,
     plan: OnePlan,
@@ -22,7 +30,7 @@ pub(crate) fn played_one(
     next: Cursor,
 ) -> Played {
     let batch = plan.batch;
-    let printed = put_one(out, output, batch, is_right(next));
+    let printed = put_one(writer, out, output, batch, is_right(next));
     let answer = one_answer(plan, s);
     Played {
         answer,

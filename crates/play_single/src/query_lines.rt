@@ -9,8 +9,10 @@ use records::state::State;
 use single_calls::queries::{
     plan_begin_query, plan_end_query, plan_write_timestamp, reset_queries,
 };
+use std::io::Write;
 
-pub(crate) fn play_begin_query(
+pub(crate) fn play_begin_query<W: Write>(
+    writer: &mut W,
     out: &mut [u8],
     output: Output,
     room: usize,
@@ -23,10 +25,11 @@ pub(crate) fn play_begin_query(
     let a = query_line(line, c, &mut numbers);
     let next = a.next;
     let plan = plan_begin_query(&numbers, room, a.count, a.target, caps, s, a.index);
-    played_one(out, output, plan, s, next)
+    played_one(writer, out, output, plan, s, next)
 }
 
-pub(crate) fn play_end_query(
+pub(crate) fn play_end_query<W: Write>(
+    writer: &mut W,
     out: &mut [u8],
     output: Output,
     room: usize,
@@ -39,10 +42,11 @@ pub(crate) fn play_end_query(
     let a = query_line(line, c, &mut numbers);
     let next = a.next;
     let plan = plan_end_query(&numbers, room, a.count, a.target, caps, s, a.index);
-    played_one(out, output, plan, s, next)
+    played_one(writer, out, output, plan, s, next)
 }
 
-pub(crate) fn play_write_timestamp(
+pub(crate) fn play_write_timestamp<W: Write>(
+    writer: &mut W,
     out: &mut [u8],
     output: Output,
     room: usize,
@@ -55,7 +59,7 @@ pub(crate) fn play_write_timestamp(
     let a = query_line(line, c, &mut numbers);
     let next = a.next;
     let plan = plan_write_timestamp(&numbers, room, a.count, a.target, caps, s, a.index);
-    played_one(out, output, plan, s, next)
+    played_one(writer, out, output, plan, s, next)
 }
 
 pub(crate) fn play_reset_queries(

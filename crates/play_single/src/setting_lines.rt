@@ -10,8 +10,10 @@ use records::state::State;
 use single_calls::settings::{
     plan_set_blend_constants, plan_set_index_buffer, plan_set_scissor_rect, plan_set_viewport,
 };
+use std::io::Write;
 
-pub(crate) fn play_set_index_buffer(
+pub(crate) fn play_set_index_buffer<W: Write>(
+    writer: &mut W,
     out: &mut [u8],
     output: Output,
     room: usize,
@@ -25,10 +27,11 @@ pub(crate) fn play_set_index_buffer(
     let format = a.format;
     let next = a.next;
     let plan = plan_set_index_buffer(room, caps, s, buffer.raw, a.offset, format);
-    played_one(out, output, plan, s, next)
+    played_one(writer, out, output, plan, s, next)
 }
 
-pub(crate) fn play_set_viewport(
+pub(crate) fn play_set_viewport<W: Write>(
+    writer: &mut W,
     out: &mut [u8],
     output: Output,
     room: usize,
@@ -42,10 +45,11 @@ pub(crate) fn play_set_viewport(
     let depth = a.depth;
     let next = a.next;
     let plan = plan_set_viewport(room, caps, s, rect, depth);
-    played_one(out, output, plan, s, next)
+    played_one(writer, out, output, plan, s, next)
 }
 
-pub(crate) fn play_set_scissor_rect(
+pub(crate) fn play_set_scissor_rect<W: Write>(
+    writer: &mut W,
     out: &mut [u8],
     output: Output,
     room: usize,
@@ -59,10 +63,11 @@ pub(crate) fn play_set_scissor_rect(
     let past = a.next;
     let next = closed(line, past);
     let plan = plan_set_scissor_rect(room, caps, s, value);
-    played_one(out, output, plan, s, next)
+    played_one(writer, out, output, plan, s, next)
 }
 
-pub(crate) fn play_set_blend_constants(
+pub(crate) fn play_set_blend_constants<W: Write>(
+    writer: &mut W,
     out: &mut [u8],
     output: Output,
     room: usize,
@@ -76,5 +81,5 @@ pub(crate) fn play_set_blend_constants(
     let past = a.next;
     let next = closed(line, past);
     let plan = plan_set_blend_constants(room, caps, s, value);
-    played_one(out, output, plan, s, next)
+    played_one(writer, out, output, plan, s, next)
 }

@@ -1,17 +1,18 @@
 // Output through a lent buffer: what does not fit any more is preceded by what stands there.
-// Each function answers how much of the buffer is used.
+// Each function answers how much of the buffer is used. A write that fails is passed over.
 use flat::cursor::{Cursor, Wanted};
-use libc::STDOUT_FILENO;
 use records::check::within;
 use records::command::Command;
 use records::state::State;
 use state_text::write_state;
+use std::io::Write;
+use text::put::put_decimal;
 use text::{Wrote, write_command};
 
 // Writes the used part.
-pub fn flush(out: &[u8], used: usize) -> usize {
+pub fn flush<W: Write>(writer: &mut W, out: &[u8], used: usize) -> usize {
     let n = within(used, out.len());
-    io::write_all(STDOUT_FILENO, &out[..n]);
+    let _ = writer.write_all(&out[..n]);
     0
 }
 
@@ -35,21 +36,21 @@ fn lay(out: &mut [u8], at: usize, text: &[u8]) {
     }
 }
 
-pub fn put(out: &mut [u8], used: usize, text: &[u8]) -> usize {
+pub fn put<W: Write>(writer: &mut W, out: &mut [u8], used: usize, text: &[u8]) -> usize {
     let n = within(used, out.len());
     if text.len() <= out.len() - n {
         lay(out, n, text);
         return n + text.len();
     }
-    flush(out, n);
-    io::write_all(STDOUT_FILENO, text);
+    flush(writer, out, n);
+    let _ = writer.write_all(text);
     0
 }
 
-pub fn put_number(out: &mut [u8], used: usize, number: u64) -> usize {
+pub fn put_number<W: Write>(writer: &mut W, out: &mut [u8], used: usize, number: u64) -> usize {
     let mut digits = [0u8; 20];
-    let n = io::decimal(number, &mut digits);
-    put(out, used, &digits[..n])
+    let at = put_decimal(&mut digits, 20, number);
+    put(writer, out, used, &digits[at..])
 }
 
 fn next_or(wrote: Wrote, otherwise: usize) -> usize {
@@ -66,12 +67,18 @@ fn has_room(wrote: Wrote) -> bool {
     }
 }
 
-fn put_numbered(out: &mut [u8], used: usize, number: u64, command: Command) -> usize {
+fn put_numbered<W: Write>(
+    writer: &mut W,
+    out: &mut [u8],
+    used: usize,
+    number: u64,
+    command: Command,
+) -> usize {
     let wrote = write_command(out, used, number, command);
     if has_room(wrote) {
         return next_or(wrote, 0);
     }
-    flush(out, used);
+    flush(writer, out, used);
     next_or(write_command(out, 0, number, command), 0)
 }
 
@@ -82,29 +89,35 @@ pub struct Output {
     pub divide: bool,
 }
 
-pub fn put_divider(out: &mut [u8], output: Output) -> usize {
+pub fn put_divider<W: Write>(writer: &mut W, out: &mut [u8], output: Output) -> usize {
     if output.divide {
-        return put(out, output.used, b"---\n");
+        return put(writer, out, output.used, b"---\n");
     }
     output.used
 }
 
 // A command with its place in the list.
-pub fn put_command(out: &mut [u8], output: Output, number: u64, command: Command) -> Output {
-    let divided = put_divider(out, output);
-    let used = put_numbered(out, divided, number, command);
+pub fn put_command<W: Write>(
+    writer: &mut W,
+    out: &mut [u8],
+    output: Output,
+    number: u64,
+    command: Command,
+) -> Output {
+    let divided = put_divider(writer, out, output);
+    let used = put_numbered(writer, out, divided, number, command);
     Output {
         used,
         divide: false,
     }
 }
 
-pub fn put_state(out: &mut [u8], used: usize, s: State) -> usize {
+pub fn put_state<W: Write>(writer: &mut W, out: &mut [u8], used: usize, s: State) -> usize {
     let wrote = write_state(out, used, s);
     if has_room(wrote) {
         return next_or(wrote, 0);
     }
-    flush(out, used);
+    flush(writer, out, used);
     next_or(write_state(out, 0, s), 0)
 }
 
@@ -113,101 +126,153 @@ fn hex_digit(n: u8) -> u8 {
     if d < 10 { b'0' + d } else { b'a' + (d - 10) }
 }
 
-fn put_byte(out: &mut [u8], used: usize, byte: u8) -> usize {
+fn put_byte<W: Write>(writer: &mut W, out: &mut [u8], used: usize, byte: u8) -> usize {
     let text = [b' ', hex_digit(byte / 16), hex_digit(byte)];
-    put(out, used, &text)
+    put(writer, out, used, &text)
 }
 
-fn put_each_byte(out: &mut [u8], used: usize, bytes: &[u8], count: usize) -> usize {
+fn put_each_byte<W: Write>(
+    writer: &mut W,
+    out: &mut [u8],
+    used: usize,
+    bytes: &[u8],
+    count: usize,
+) -> usize {
     let n = within(count, bytes.len());
     let mut at = used;
     let mut i: usize = 0;
     while i < n {
-        at = put_byte(out, at, bytes[i]);
+        at = put_byte(writer, out, at, bytes[i]);
         i += 1;
     }
     at
 }
 
 // The marker bytes of a list.
-pub fn put_bytes(out: &mut [u8], used: usize, bytes: &[u8], count: usize) -> usize {
+pub fn put_bytes<W: Write>(
+    writer: &mut W,
+    out: &mut [u8],
+    used: usize,
+    bytes: &[u8],
+    count: usize,
+) -> usize {
     let n = within(count, bytes.len());
-    let named = put(out, used, b"bytes ");
-    let counted = put_number(out, named, n as u64);
-    let told = put_each_byte(out, counted, bytes, n);
-    put(out, told, b"\n")
+    let named = put(writer, out, used, b"bytes ");
+    let counted = put_number(writer, out, named, n as u64);
+    let told = put_each_byte(writer, out, counted, bytes, n);
+    put(writer, out, told, b"\n")
 }
 
-fn put_word(out: &mut [u8], used: usize, number: u64) -> usize {
-    let at = put(out, used, b" ");
-    put_number(out, at, number)
+fn put_word<W: Write>(writer: &mut W, out: &mut [u8], used: usize, number: u64) -> usize {
+    let at = put(writer, out, used, b" ");
+    put_number(writer, out, at, number)
 }
 
-fn put_query(out: &mut [u8], used: usize, query: u32) -> usize {
-    put_word(out, used, query as u64)
+fn put_query<W: Write>(writer: &mut W, out: &mut [u8], used: usize, query: u32) -> usize {
+    put_word(writer, out, used, query as u64)
 }
 
-fn put_each_query(out: &mut [u8], used: usize, queries: &[u32], count: usize) -> usize {
+fn put_each_query<W: Write>(
+    writer: &mut W,
+    out: &mut [u8],
+    used: usize,
+    queries: &[u32],
+    count: usize,
+) -> usize {
     let n = within(count, queries.len());
     let mut at = used;
     let mut i: usize = 0;
     while i < n {
-        at = put_query(out, at, queries[i]);
+        at = put_query(writer, out, at, queries[i]);
         i += 1;
     }
     at
 }
 
 // The queries of a list.
-pub fn put_queries(out: &mut [u8], used: usize, queries: &[u32], count: usize) -> usize {
+pub fn put_queries<W: Write>(
+    writer: &mut W,
+    out: &mut [u8],
+    used: usize,
+    queries: &[u32],
+    count: usize,
+) -> usize {
     let n = within(count, queries.len());
-    let named = put(out, used, b"queries ");
-    let counted = put_number(out, named, n as u64);
-    let told = put_each_query(out, counted, queries, n);
-    put(out, told, b"\n")
+    let named = put(writer, out, used, b"queries ");
+    let counted = put_number(writer, out, named, n as u64);
+    let told = put_each_query(writer, out, counted, queries, n);
+    put(writer, out, told, b"\n")
 }
 
-fn put_answer(out: &mut [u8], used: usize, number: usize, answer: u8) -> usize {
-    let named = put(out, used, b"answer ");
-    let numbered = put_number(out, named, number as u64);
-    let said = put_word(out, numbered, answer as u64);
-    put(out, said, b"\n")
+fn put_answer<W: Write>(
+    writer: &mut W,
+    out: &mut [u8],
+    used: usize,
+    number: usize,
+    answer: u8,
+) -> usize {
+    let named = put(writer, out, used, b"answer ");
+    let numbered = put_number(writer, out, named, number as u64);
+    let said = put_word(writer, out, numbered, answer as u64);
+    put(writer, out, said, b"\n")
 }
 
 // The calls' answers, numbered from 0.
-pub fn put_answers(out: &mut [u8], used: usize, answers: &[u8], count: usize) -> usize {
+pub fn put_answers<W: Write>(
+    writer: &mut W,
+    out: &mut [u8],
+    used: usize,
+    answers: &[u8],
+    count: usize,
+) -> usize {
     let n = within(count, answers.len());
     let mut at = used;
     let mut i: usize = 0;
     while i < n {
-        at = put_answer(out, at, i, answers[i]);
+        at = put_answer(writer, out, at, i, answers[i]);
         i += 1;
     }
     at
 }
 
-fn put_wanted(out: &mut [u8], used: usize, wanted: Wanted) -> usize {
+fn put_wanted<W: Write>(writer: &mut W, out: &mut [u8], used: usize, wanted: Wanted) -> usize {
     match wanted {
         Wanted::Nothing => used,
         Wanted::UpTo(most) => {
-            let at = put(out, used, b"a number from 0 to ");
-            put_number(out, at, most)
+            let at = put(writer, out, used, b"a number from 0 to ");
+            put_number(writer, out, at, most)
         }
-        Wanted::Signed => put(out, used, b"a number from -2147483648 to 2147483647"),
-        Wanted::End => put(out, used, b"one blank and a number, or the end of the line"),
+        Wanted::Signed => put(
+            writer,
+            out,
+            used,
+            b"a number from -2147483648 to 2147483647",
+        ),
+        Wanted::End => put(
+            writer,
+            out,
+            used,
+            b"one blank and a number, or the end of the line",
+        ),
     }
 }
 
 // What is wrong with a line, counted from 1, as its characters are.
-pub fn put_error(out: &mut [u8], used: usize, line: u64, c: Cursor) -> usize {
+pub fn put_error<W: Write>(
+    writer: &mut W,
+    out: &mut [u8],
+    used: usize,
+    line: u64,
+    c: Cursor,
+) -> usize {
     let wanted = c.wanted;
-    let said = put(out, used, b"error: line ");
-    let numbered = put_number(out, said, line);
-    let expected = put(out, numbered, b": expected ");
-    let told = put_wanted(out, expected, wanted);
-    let placed = put(out, told, b" at character ");
-    let at = put_number(out, placed, place_of(c.at));
-    put(out, at, b"\n")
+    let said = put(writer, out, used, b"error: line ");
+    let numbered = put_number(writer, out, said, line);
+    let expected = put(writer, out, numbered, b": expected ");
+    let told = put_wanted(writer, out, expected, wanted);
+    let placed = put(writer, out, told, b" at character ");
+    let at = put_number(writer, out, placed, place_of(c.at));
+    put(writer, out, at, b"\n")
 }
 
 fn place_of(at: usize) -> u64 {

@@ -1,5 +1,5 @@
 -- The draw that is made in the end, with a number of the span: what it hands back. Assumes nothing.
-use Rattle.std.specs.Prelude.{ℕ, ◌+◌, ◌-◌, ◌≤◌, ◌≡◌, Bool, true, false, cond, not, List, [], ◌∷◌, ◌++◌, map, ◌⊎◌, length, take, drop}
+use Rattle.std.specs.Prelude.{ℕ, ◌+◌, ◌-◌, ◌≤◌, ◌≡◌, Bool, true, false, cond, List, [], ◌∷◌, ◌++◌, map, ◌⊎◌, length, take, drop}
 use Rattle.std.proofs.Math.Path.{refl, ap}
 use Rattle.std.proofs.Common.{sym, ◌∙◌, subst, inl, inr, arith, take_at, drop_at, length-take-le}
 use Rattle.std.proofs.lemmas.List.{length-map}
@@ -20,7 +20,7 @@ use Rattle.records.specs.declared.state.Answer.{Answer}
 use Rattle.records.specs.declared.state.State.{State}
 use Rattle.slots.specs.Prepare.{working, buffer_commands, attribute_commands}
 use Rattle.calls.proofs.Judged.{bad, neither, none-holds, None, within}
-use Rattle.calls.specs.Call.{Call, draw}
+use Rattle.calls.specs.Call.{Call}
 use Rattle.calls.specs.Did.{Did, Runs, rooms_of, record_of, written}
 use Rattle.calls.specs.Meaning.{Meaning, list_run}
 use Rattle.calls.specs.Parts.{with_progress}

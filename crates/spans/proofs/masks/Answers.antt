@@ -1,5 +1,5 @@
 -- `spans::masks` meets its contract. Invariant: both masks of the slots below i. Measure: the slots left. Assumes nothing.
-use Prim.Native.Nat.{suc, ◌+◌, ◌-◌, ◌<◌}
+use Prim.Native.Nat.{suc, ◌+◌, ◌<◌}
 use mathlib.Core.Path.{◌≡◌, refl}
 use native.Mathlib.Omega.{arith}
 use Rattle.mask.specs.Mask.{mask_of}
