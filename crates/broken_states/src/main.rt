@@ -4,10 +4,10 @@
 
 use calls::encoding::set_vertex_buffer;
 use calls::parts::{with_bind, with_fixed, with_immediates, with_pass, with_progress, with_vertex};
-use libc::STDOUT_FILENO;
 use records::outcome::Outcome;
 use records::pipeline::PrivateCapabilities;
 use records::state::{Phase, Progress, State};
+use std::io;
 
 fn board() -> PrivateCapabilities {
     PrivateCapabilities {
@@ -110,48 +110,48 @@ fn digit(outcome: Outcome) -> u8 {
 }
 
 // A line: the answer, and what the state is.
-fn row(what: &[u8], s: State) {
+fn row(rt: &impl Print, what: &[u8], s: State) -> io::Result<()> {
     let answer = set_vertex_buffer(board(), s, 0, 1, 0);
     let outcome = answer.outcome;
     let number = [digit(outcome), b' '];
-    io::write_all(STDOUT_FILENO, &number);
-    io::write_all(STDOUT_FILENO, what);
-    io::write_all(STDOUT_FILENO, b"\n");
+    rt.write_all(&number)?;
+    rt.write_all(what)?;
+    rt.write_all(b"\n")
 }
 
-fn counts() {
-    row(b"as it begins", recorded(0, 0, 0));
-    row(b"4,096 commands", recorded(4096, 0, 0));
-    row(b"4,097 commands", recorded(4097, 0, 0));
-    row(b"65,537 bytes", recorded(0, 65537, 0));
-    row(b"1,025 queries", recorded(0, 0, 1025));
+fn counts(rt: &impl Print) -> io::Result<()> {
+    row(rt, b"as it begins", recorded(0, 0, 0))?;
+    row(rt, b"4,096 commands", recorded(4096, 0, 0))?;
+    row(rt, b"4,097 commands", recorded(4097, 0, 0))?;
+    row(rt, b"65,537 bytes", recorded(0, 65537, 0))?;
+    row(rt, b"1,025 queries", recorded(0, 0, 1025))
 }
 
-fn vertices() {
-    row(b"1 attribute", attributes(1));
-    row(b"2 attributes at one location", attributes(2));
-    row(b"17 attributes", attributes(17));
-    row(b"slot 15 dirty", dirty(32768));
-    row(b"slot 16 dirty", dirty(65536));
+fn vertices(rt: &impl Print) -> io::Result<()> {
+    row(rt, b"1 attribute", attributes(1))?;
+    row(rt, b"2 attributes at one location", attributes(2))?;
+    row(rt, b"17 attributes", attributes(17))?;
+    row(rt, b"slot 15 dirty", dirty(32768))?;
+    row(rt, b"slot 16 dirty", dirty(65536))
 }
 
-fn others() {
-    row(b"8 targets", targets(8));
-    row(b"9 targets", targets(9));
-    row(b"8 resolves", resolves(8));
-    row(b"9 resolves", resolves(9));
-    row(b"bit 9 invalidated", invalidated(512));
-    row(b"bit 10 invalidated", invalidated(1024));
-    row(b"192 descriptors", descriptors(192));
-    row(b"193 descriptors", descriptors(193));
-    row(b"unit 15 sampled", sampled(32768));
-    row(b"unit 16 sampled", sampled(65536));
+fn others(rt: &impl Print) -> io::Result<()> {
+    row(rt, b"8 targets", targets(8))?;
+    row(rt, b"9 targets", targets(9))?;
+    row(rt, b"8 resolves", resolves(8))?;
+    row(rt, b"9 resolves", resolves(9))?;
+    row(rt, b"bit 9 invalidated", invalidated(512))?;
+    row(rt, b"bit 10 invalidated", invalidated(1024))?;
+    row(rt, b"192 descriptors", descriptors(192))?;
+    row(rt, b"193 descriptors", descriptors(193))?;
+    row(rt, b"unit 15 sampled", sampled(32768))?;
+    row(rt, b"unit 16 sampled", sampled(65536))
 }
 
-fn main() {
-    counts();
-    vertices();
-    others();
-    row(b"17 attributes and 4,097 commands", two_wrong());
-    row(b"outside a render pass, 17 attributes", closed());
+fn main(rt: HostRuntime) -> io::Result<()> {
+    counts(&rt)?;
+    vertices(&rt)?;
+    others(&rt)?;
+    row(&rt, b"17 attributes and 4,097 commands", two_wrong())?;
+    row(&rt, b"outside a render pass, 17 attributes", closed())
 }
