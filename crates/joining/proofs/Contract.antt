@@ -1,12 +1,12 @@
 -- What the two halves of `join` do, the list and the runs of numbers, is what its contract says (specs/Joins.antt). Assumes nothing.
-use Prim.Native.Nat.{ℕ, suc, ◌+◌, ◌≤◌, min}
+use Prim.Native.Nat.{ℕ, suc, ◌+◌, ◌≤◌}
 use mathlib.Core.Path.{◌≡◌, refl, sym, ap, ap₂, ◌∙◌, subst}
 use mathlib.Core.Bool.{Bool, true, false, cond, ◌||◌}
 use mathlib.Core.List.{List, [], ◌∷◌, ◌++◌, map}
 use native.Mathlib.Omega.{arith}
 use lib.Dec.{ltb}
-use lib.ListN.{length, get_or, take, drop, length-map, length-take, take-append-drop}
-use lib.Seq.{length-take-le, take-append_seam, paste-zero}
+use lib.ListN.{length, get_or, take, drop, length-map, take-append-drop}
+use lib.Seq.{length-take-le, paste-zero}
 use Rattle.machine.proofs.Lists.{or_left, or_right, false-true}
 use Rattle.machine.specs.Machine.{fresh_gl}
 use Rattle.records.specs.Check.{some?}
@@ -36,6 +36,7 @@ use Rattle.joining.specs.Ending.{resets_by}
 use Rattle.joining.specs.Plan.{look_record, first_look, to_first, looked_of, asked_of, total, small_by, judged_by, refused_plan, done_plan, plan_by}
 use Rattle.joining.specs.Plan.{moved_record, list_by, numbers_by, ListJoined, RunsJoined}
 use Rattle.joining.proofs.Judging.{all-false}
+use Rattle.joining.proofs.Lent.{taken}
 use Rattle.joining.proofs.Sums.{short-bytes, short-queries}
 use Rattle.joining.proofs.Planning.{in-other, in-room, in_bytes, in_queries, in-other-bytes, in-other-queries, room-is, counts-in}
 use Rattle.joining.proofs.Laid.{size-joined}
@@ -50,9 +51,6 @@ surveyed-fold i l (x ∷ xs) = surveyed-fold (suc i) (look_record l i x) xs
 
 surveyed-is : (l : List Record) (x : Asked) → (looked_of l x).surveyed ≡ survey_of l x.used
 surveyed-is l x = surveyed-fold 0 (first_look x (length l)) (take (to_first x (length l)) l) ∙ from_start l x.used
-
-taken : (n : ℕ) (l : List Record) → take (min n (length l)) l ≡ take n l
-taken n l = ap (λ (m : ℕ). take m l) (sym (length-take n l)) ∙ ap (take (length (take n l))) (sym (take-append-drop n l)) ∙ take-append_seam (take n l) (drop n l)
 
 puts-in : (l : List Record) (x : Asked) → (survey_of l x.used).breaks.range ≡ false → resets_by (looked_of l x).ending ≡ put_in (commands_of (take x.used.commands l))
 puts-in l x e =

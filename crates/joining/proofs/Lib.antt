@@ -4,8 +4,6 @@ pub mod Alone
 pub mod Differing
 pub mod Fits
 pub mod Ranges
-pub mod Others
-pub mod Data
 pub mod Looking
 pub mod Sums
 pub mod Judging

@@ -2,7 +2,7 @@
 use mathlib.Core.Path.{◌≡◌, refl, sym, ap, ap₂, ◌∙◌, subst}
 use mathlib.Core.Bool.{Bool, true, false, ◌||◌}
 use mathlib.Core.List.{List, [], ◌∷◌}
-use Prim.Native.Nat.{ℕ, suc, ◌+◌, ◌≤◌}
+use Prim.Native.Nat.{ℕ, suc, ◌+◌, ◌≤◌, ◌<◌}
 use native.Mathlib.Omega.{arith}
 use lib.Dec.{ltb}
 use lib.ListN.{length, take}
@@ -21,13 +21,10 @@ use Rattle.list_walks.specs.Fold.{fold_at}
 use Rattle.joining.specs.declared.plan.Joining.{Joining}
 use Rattle.joining.specs.declared.plan.Joining.TheVariants.{Done, TooMany, OutOfRange, TooLong, NoRoom}
 use Rattle.joining.specs.Joins.{too_long, is_done}
+use Rattle.joining.specs.Joined.{Floats}
 use Rattle.joining.specs.Ending.{resets_by}
-use Rattle.joining.specs.Plan.{look_record, first_look, to_first, looked_of, asked_of, total, small_by, judged_by, refused_plan, done_plan, plan_by, planned_of, list_by, ListJoined, RunsFit}
+use Rattle.joining.specs.Plan.{look_record, first_look, to_first, looked_of, asked_of, total, small_by, judged_by, refused_plan, done_plan, plan_by, planned_of, Allowed, list_by, ListJoined, RunsFit}
 use Rattle.joining.proofs.Judging.{well}
-use Rattle.walks.proofs.Recording.{Fits}
-use Rattle.list_walks.proofs.Elements.{Goods}
-use Rattle.lists.proofs.Data.{element}
-use Rattle.joining.proofs.Data.{plans}
 use Rattle.joining.proofs.Lent.{floats-lent}
 
 -- what follows of a plan follows of each that it may be
@@ -93,8 +90,11 @@ counts-in m u e =
     (or_right (ltb 1024 u.queries) (ltb (length m) u.commands) (or_right (ltb 65536 u.bytes) (ltb 1024 u.queries || ltb (length m) u.commands)
     (or_right (ltb 4096 u.commands) (ltb 65536 u.bytes || (ltb 1024 u.queries || ltb (length m) u.commands)) (or_left (over_counts (length m) u) (some? (λ c. (breaks u c).room) (handed m u).commands) e))))
 
-pub plan-fits : (l m : List Record) (x : Asked) (a : Looked) (s : Surveyed) → a ≡ looked_of l x → s ≡ survey_of m x.other → Fits plans (planned_of x a s) (length l)
-plan-fits l m x a s e f = by-plan (λ p. Fits plans p (length l)) x a s (λ o. (omega arith, λ i h. absurd (omega arith))) (λ h k. (let r = in-room x a s (total x (length (resets_by a.ending))) k in omega (arith, r, room-is l x a e), λ i h. h))
+pub plan-fits : (l m : List Record) (x : Asked) (a : Looked) (s : Surveyed) → a ≡ looked_of l x → s ≡ survey_of m x.other
+    → ((planned_of x a s).batch.at + (planned_of x a s).batch.n ≤ length l) × ((i : ℕ) → i < (planned_of x a s).batch.n → Allowed (planned_of x a s).batch i)
+plan-fits l m x a s e f =
+    by-plan (λ p. (p.batch.at + p.batch.n ≤ length l) × ((i : ℕ) → i < p.batch.n → Allowed p.batch i)) x a s (λ o. (omega arith, λ i h. absurd (omega arith)))
+    (λ h k. (let r = in-room x a s (total x (length (resets_by a.ending))) k in omega (arith, r, room-is l x a e), λ i h. h))
 
 pub plan-copies : (l m : List Record) (x : Asked) (a : Looked) (s : Surveyed) → a ≡ looked_of l x → s ≡ survey_of m x.other
     → ((planned_of x a s).copied.commands ≤ length m) × ((planned_of x a s).from.commands + (planned_of x a s).copied.commands ≤ length l)
@@ -104,8 +104,8 @@ plan-copies l m x a s e f =
       (let r = in-room x a s (total x (length (resets_by a.ending))) k in omega (arith, r, room-is l x a e)),
     ))
 
-pub plan-does : (l m : List Record) (x : Asked) (a : Looked) (s : Surveyed) → Goods element.R l → a ≡ looked_of l x → s ≡ survey_of m x.other → ListJoined l m x (list_by (planned_of x a s) l m) (planned_of x a s)
-plan-does l m x a s gs e f = (ap₂ (planned_of x) e f, refl, floats-lent l x.used.commands gs)
+pub plan-does : (l m : List Record) (x : Asked) (a : Looked) (s : Surveyed) → Floats a.ending.blend → a ≡ looked_of l x → s ≡ survey_of m x.other → ListJoined l m x (list_by (planned_of x a s) l m) (planned_of x a s)
+plan-does l m x a s fs e f = (ap₂ (planned_of x) e f, refl, floats-lent l x (subst (λ (z : Looked). Floats z.ending.blend) e fs))
 
 pub runs_fit : (l : List Record) (bs qs : List ℕ) (m : List Record) (cs rs : List ℕ) (u v : Used) (l' : List Record) (p : JoinPlan)
     → ListJoined l m (asked_of (length bs) (length qs) (length cs) (length rs) u v) l' p → RunsFit bs qs cs rs p

@@ -21,7 +21,6 @@ use Rattle.records.specs.declared.command.RangeU32.{RangeU32}
 use Rattle.machine.specs.Machine.{Gl, fresh_gl}
 use Rattle.lists.specs.Clips.{Clips, clip_of}
 use Rattle.lists.specs.Shots.{settings}
-use Rattle.lists.specs.Things.{screen, fixed}
 
 -- a finished list: its commands, marker bytes and queries
 pub record Listed : Type 0 where

@@ -11,13 +11,15 @@ use records::check::within;
 use records::limits::MAX_COMMANDS;
 use records::pipeline::PrivateCapabilities;
 use records::state::State;
+use std::io::Write;
 
 pub const LAST_CODE: u64 = 30;
 
 // The call of a line: what it records is printed, where the line is right. Where the line is wrong
 // nothing is printed, and the state and the runs are to be used as they were. The line's first
 // number, the answer that is expected, is not looked at.
-pub fn play(
+pub fn play<W: Write>(
+    writer: &mut W,
     out: &mut [u8],
     output: Output,
     room: usize,
@@ -34,11 +36,13 @@ pub fn play(
     let code = t.value;
     let part = within(room, MAX_COMMANDS);
     match code {
-        2 | 4 => play_begin(out, output, part, bytes, line, c, code, caps, s),
-        3 | 5 | 6 | 9 => play_passes(out, output, part, line, c, code, caps, s),
-        10 => play_copy_query_results(out, output, part, queries, line, c, caps, s),
-        16 => play_set_immediates(out, output, part, bytes, line, c, caps, s),
-        15 | 17 | 18 | 23 | 25..=28 => play_draws(out, output, part, line, c, code, caps, s),
-        _ => play_single(out, output, part, line, c, code, caps, s),
+        2 | 4 => play_begin(writer, out, output, part, bytes, line, c, code, caps, s),
+        3 | 5 | 6 | 9 => play_passes(writer, out, output, part, line, c, code, caps, s),
+        10 => play_copy_query_results(writer, out, output, part, queries, line, c, caps, s),
+        16 => play_set_immediates(writer, out, output, part, bytes, line, c, caps, s),
+        15 | 17 | 18 | 23 | 25..=28 => play_draws(
+            writer, out, output, part, line, c, code, caps, s,
+        ),
+        _ => play_single(writer, out, output, part, line, c, code, caps, s),
     }
 }

@@ -10,8 +10,10 @@ use played::print::Output;
 use played::{MAX_NUMBERS, Played};
 use records::pipeline::PrivateCapabilities;
 use records::state::State;
+use std::io::Write;
 
-pub(crate) fn play_set_bind_group(
+pub(crate) fn play_set_bind_group<W: Write>(
+    writer: &mut W,
     out: &mut [u8],
     output: Output,
     room: usize,
@@ -31,7 +33,7 @@ pub(crate) fn play_set_bind_group(
         &numbers, room, a.count, caps, s, layout, a.index, entries, group,
     );
     let batch = plan.batch;
-    let printed = put_group(out, output, &numbers, batch, is_right(next));
+    let printed = put_group(writer, out, output, &numbers, batch, is_right(next));
     let answer = group_answer(plan, s);
     Played {
         answer,
@@ -40,7 +42,8 @@ pub(crate) fn play_set_bind_group(
     }
 }
 
-pub fn play_set_immediates(
+pub fn play_set_immediates<W: Write>(
+    writer: &mut W,
     out: &mut [u8],
     output: Output,
     room: usize,
@@ -56,7 +59,7 @@ pub fn play_set_immediates(
     let plan = plan_set_immediates(&numbers, room, bytes.len(), a.count, caps, s, a.offset);
     write_bytes(bytes, &numbers, plan);
     let batch = plan.batch;
-    let printed = put_sent(out, output, batch, is_right(next));
+    let printed = put_sent(writer, out, output, batch, is_right(next));
     let answer = sent_answer(plan, s);
     Played {
         answer,

@@ -13,13 +13,21 @@ use played::Played;
 use played::print::Output;
 use records::pipeline::PrivateCapabilities;
 use records::state::State;
+use std::io::Write;
 
 // A draw that is planned: its commands are printed, and its answer is handed on.
-fn played_drawn(out: &mut [u8], output: Output, plan: DrawPlan, s: State, next: Cursor) -> Played
+fn played_drawn<W: Write>(
+    writer: &mut W,
+    out: &mut [u8],
+    output: Output,
+    plan: DrawPlan,
+    s: State,
+    next: Cursor,
+) -> Played
     requires { (i : ℕ) → i < plan.batch.n → DrawAllowed plan.batch i }
 {
     let batch = plan.batch;
-    let printed = put_drawn(out, output, batch, is_right(next));
+    let printed = put_drawn(writer, out, output, batch, is_right(next));
     let answer = draw_answer(plan, s);
     Played {
         answer,
@@ -28,7 +36,8 @@ fn played_drawn(out: &mut [u8], output: Output, plan: DrawPlan, s: State, next: 
     }
 }
 
-pub(crate) fn play_draw(
+pub(crate) fn play_draw<W: Write>(
+    writer: &mut W,
     out: &mut [u8],
     output: Output,
     room: usize,
@@ -48,10 +57,11 @@ pub(crate) fn play_draw(
         a.first_instance,
         a.instance_count,
     );
-    played_drawn(out, output, plan, s, next)
+    played_drawn(writer, out, output, plan, s, next)
 }
 
-pub(crate) fn play_draw_indexed(
+pub(crate) fn play_draw_indexed<W: Write>(
+    writer: &mut W,
     out: &mut [u8],
     output: Output,
     room: usize,
@@ -72,10 +82,11 @@ pub(crate) fn play_draw_indexed(
         a.first_instance,
         a.instance_count,
     );
-    played_drawn(out, output, plan, s, next)
+    played_drawn(writer, out, output, plan, s, next)
 }
 
-pub(crate) fn play_draw_indirect(
+pub(crate) fn play_draw_indirect<W: Write>(
+    writer: &mut W,
     out: &mut [u8],
     output: Output,
     room: usize,
@@ -88,10 +99,11 @@ pub(crate) fn play_draw_indirect(
     let buffer = a.buffer;
     let next = a.next;
     let plan = plan_draw_indirect(room, caps, s, buffer.raw, a.offset, a.draw_count);
-    played_drawn(out, output, plan, s, next)
+    played_drawn(writer, out, output, plan, s, next)
 }
 
-pub(crate) fn play_draw_indexed_indirect(
+pub(crate) fn play_draw_indexed_indirect<W: Write>(
+    writer: &mut W,
     out: &mut [u8],
     output: Output,
     room: usize,
@@ -104,5 +116,5 @@ pub(crate) fn play_draw_indexed_indirect(
     let buffer = a.buffer;
     let next = a.next;
     let plan = plan_draw_indexed_indirect(room, caps, s, buffer.raw, a.offset, a.draw_count);
-    played_drawn(out, output, plan, s, next)
+    played_drawn(writer, out, output, plan, s, next)
 }

@@ -11,9 +11,11 @@ use played::Played;
 use played::print::Output;
 use records::pipeline::PrivateCapabilities;
 use records::state::State;
+use std::io::Write;
 
 // Codes 15, 17, 18, 23 and 25 to 28.
-pub fn play_draws(
+pub fn play_draws<W: Write>(
+    writer: &mut W,
     out: &mut [u8],
     output: Output,
     room: usize,
@@ -24,13 +26,13 @@ pub fn play_draws(
     s: State,
 ) -> Played {
     match code {
-        15 => play_set_bind_group(out, output, room, line, c, caps, s),
-        17 => play_set_render_pipeline(out, output, room, line, c, caps, s),
-        18 => play_set_compute_pipeline(out, output, room, line, c, caps, s),
-        23 => play_set_stencil_reference(out, output, room, line, c, caps, s),
-        25 => play_draw(out, output, room, line, c, caps, s),
-        26 => play_draw_indexed(out, output, room, line, c, caps, s),
-        27 => play_draw_indirect(out, output, room, line, c, caps, s),
-        _ => play_draw_indexed_indirect(out, output, room, line, c, caps, s),
+        15 => play_set_bind_group(writer, out, output, room, line, c, caps, s),
+        17 => play_set_render_pipeline(writer, out, output, room, line, c, caps, s),
+        18 => play_set_compute_pipeline(writer, out, output, room, line, c, caps, s),
+        23 => play_set_stencil_reference(writer, out, output, room, line, c, caps, s),
+        25 => play_draw(writer, out, output, room, line, c, caps, s),
+        26 => play_draw_indexed(writer, out, output, room, line, c, caps, s),
+        27 => play_draw_indirect(writer, out, output, room, line, c, caps, s),
+        _ => play_draw_indexed_indirect(writer, out, output, room, line, c, caps, s),
     }
 }

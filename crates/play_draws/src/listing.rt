@@ -15,8 +15,15 @@ use pipeline_calls::programmed::{Programmed, programmed_command};
 use pipeline_calls::sides::{Sides, sides_command};
 use played::places::{place, shown};
 use played::print::{Output, put_command};
+use std::io::Write;
 
-pub(crate) fn put_drawn(out: &mut [u8], output: Output, batch: Drawn, right: bool) -> Output
+pub(crate) fn put_drawn<W: Write>(
+    writer: &mut W,
+    out: &mut [u8],
+    output: Output,
+    batch: Drawn,
+    right: bool,
+) -> Output
     requires { (i : ℕ) → i < batch.n → DrawAllowed batch i }
 {
     let first = batch.at;
@@ -25,13 +32,19 @@ pub(crate) fn put_drawn(out: &mut [u8], output: Output, batch: Drawn, right: boo
     let mut i: usize = 0;
     while i < n {
         let c = drawn_command(batch, i);
-        at = put_command(out, at, place(first, i), c);
+        at = put_command(writer, out, at, place(first, i), c);
         i += 1;
     }
     at
 }
 
-pub(crate) fn put_piped(out: &mut [u8], output: Output, batch: Piped, right: bool) -> Output
+pub(crate) fn put_piped<W: Write>(
+    writer: &mut W,
+    out: &mut [u8],
+    output: Output,
+    batch: Piped,
+    right: bool,
+) -> Output
     requires { (i : ℕ) → i < batch.n → PipedAllowed batch i }
 {
     let first = batch.at;
@@ -40,13 +53,14 @@ pub(crate) fn put_piped(out: &mut [u8], output: Output, batch: Piped, right: boo
     let mut i: usize = 0;
     while i < n {
         let c = piped_command(batch, i);
-        at = put_command(out, at, place(first, i), c);
+        at = put_command(writer, out, at, place(first, i), c);
         i += 1;
     }
     at
 }
 
-pub(crate) fn put_programmed(
+pub(crate) fn put_programmed<W: Write>(
+    writer: &mut W,
     out: &mut [u8],
     output: Output,
     batch: Programmed,
@@ -60,13 +74,19 @@ pub(crate) fn put_programmed(
     let mut i: usize = 0;
     while i < n {
         let c = programmed_command(batch, i);
-        at = put_command(out, at, place(first, i), c);
+        at = put_command(writer, out, at, place(first, i), c);
         i += 1;
     }
     at
 }
 
-pub(crate) fn put_sides(out: &mut [u8], output: Output, batch: Sides, right: bool) -> Output
+pub(crate) fn put_sides<W: Write>(
+    writer: &mut W,
+    out: &mut [u8],
+    output: Output,
+    batch: Sides,
+    right: bool,
+) -> Output
     requires { (i : ℕ) → i < batch.n → SidesAllowed batch i }
 {
     let first = batch.at;
@@ -75,13 +95,14 @@ pub(crate) fn put_sides(out: &mut [u8], output: Output, batch: Sides, right: boo
     let mut i: usize = 0;
     while i < n {
         let c = sides_command(batch, i);
-        at = put_command(out, at, place(first, i), c);
+        at = put_command(writer, out, at, place(first, i), c);
         i += 1;
     }
     at
 }
 
-pub(crate) fn put_group(
+pub(crate) fn put_group<W: Write>(
+    writer: &mut W,
     out: &mut [u8],
     output: Output,
     offsets: &[u32],
@@ -96,13 +117,19 @@ pub(crate) fn put_group(
     let mut i: usize = 0;
     while i < n {
         let c = group_command(offsets, batch, i);
-        at = put_command(out, at, place(first, i), c);
+        at = put_command(writer, out, at, place(first, i), c);
         i += 1;
     }
     at
 }
 
-pub(crate) fn put_sent(out: &mut [u8], output: Output, batch: Sending, right: bool) -> Output
+pub(crate) fn put_sent<W: Write>(
+    writer: &mut W,
+    out: &mut [u8],
+    output: Output,
+    batch: Sending,
+    right: bool,
+) -> Output
     requires { (i : ℕ) → i < batch.n → SendAllowed batch i }
 {
     let first = batch.at;
@@ -111,7 +138,7 @@ pub(crate) fn put_sent(out: &mut [u8], output: Output, batch: Sending, right: bo
     let mut i: usize = 0;
     while i < n {
         let c = sent_command(batch, i);
-        at = put_command(out, at, place(first, i), c);
+        at = put_command(writer, out, at, place(first, i), c);
         i += 1;
     }
     at

@@ -12,8 +12,10 @@ use played::Played;
 use played::print::Output;
 use records::pipeline::PrivateCapabilities;
 use records::state::State;
+use std::io::Write;
 
-pub(crate) fn play_set_render_pipeline(
+pub(crate) fn play_set_render_pipeline<W: Write>(
+    writer: &mut W,
     out: &mut [u8],
     output: Output,
     room: usize,
@@ -28,7 +30,7 @@ pub(crate) fn play_set_render_pipeline(
     let next = closed(line, past);
     let plan = plan_set_render_pipeline(room, caps, s, value);
     let batch = plan.batch;
-    let printed = put_piped(out, output, batch, is_right(next));
+    let printed = put_piped(writer, out, output, batch, is_right(next));
     let answer = piped_answer(plan, s);
     Played {
         answer,
@@ -37,7 +39,8 @@ pub(crate) fn play_set_render_pipeline(
     }
 }
 
-pub(crate) fn play_set_compute_pipeline(
+pub(crate) fn play_set_compute_pipeline<W: Write>(
+    writer: &mut W,
     out: &mut [u8],
     output: Output,
     room: usize,
@@ -52,7 +55,7 @@ pub(crate) fn play_set_compute_pipeline(
     let next = closed(line, past);
     let plan = plan_set_compute_pipeline(room, caps, s, value);
     let batch = plan.batch;
-    let printed = put_programmed(out, output, batch, is_right(next));
+    let printed = put_programmed(writer, out, output, batch, is_right(next));
     let answer = programmed_answer(plan, s);
     Played {
         answer,
@@ -61,7 +64,8 @@ pub(crate) fn play_set_compute_pipeline(
     }
 }
 
-pub(crate) fn play_set_stencil_reference(
+pub(crate) fn play_set_stencil_reference<W: Write>(
+    writer: &mut W,
     out: &mut [u8],
     output: Output,
     room: usize,
@@ -75,7 +79,7 @@ pub(crate) fn play_set_stencil_reference(
     let next = closed(line, past);
     let plan = plan_set_stencil_reference(room, caps, s, a.value);
     let batch = plan.batch;
-    let printed = put_sides(out, output, batch, is_right(next));
+    let printed = put_sides(writer, out, output, batch, is_right(next));
     let answer = sides_answer(plan, s);
     Played {
         answer,

@@ -8,9 +8,11 @@ use played::Played;
 use played::print::Output;
 use records::pipeline::PrivateCapabilities;
 use records::state::State;
+use std::io::Write;
 
 // Codes 2 and 4: the calls with a label.
-pub fn play_begin(
+pub fn play_begin<W: Write>(
+    writer: &mut W,
     out: &mut [u8],
     output: Output,
     room: usize,
@@ -22,13 +24,14 @@ pub fn play_begin(
     s: State,
 ) -> Played {
     match code {
-        2 => play_begin_render_pass(out, output, room, bytes, line, c, caps, s),
-        _ => play_begin_compute_pass(out, output, room, bytes, line, c, caps, s),
+        2 => play_begin_render_pass(writer, out, output, room, bytes, line, c, caps, s),
+        _ => play_begin_compute_pass(writer, out, output, room, bytes, line, c, caps, s),
     }
 }
 
 // Codes 3, 5, 6 and 9.
-pub fn play_passes(
+pub fn play_passes<W: Write>(
+    writer: &mut W,
     out: &mut [u8],
     output: Output,
     room: usize,
@@ -39,9 +42,9 @@ pub fn play_passes(
     s: State,
 ) -> Played {
     match code {
-        3 => play_end_render_pass(out, output, room, line, c, caps, s),
-        5 => play_end_compute_pass(out, output, room, line, c, caps, s),
-        6 => play_transition_buffers(out, output, room, line, c, caps, s),
-        _ => play_copy_buffer_to_buffer(out, output, room, line, c, caps, s),
+        3 => play_end_render_pass(writer, out, output, room, line, c, caps, s),
+        5 => play_end_compute_pass(writer, out, output, room, line, c, caps, s),
+        6 => play_transition_buffers(writer, out, output, room, line, c, caps, s),
+        _ => play_copy_buffer_to_buffer(writer, out, output, room, line, c, caps, s),
     }
 }

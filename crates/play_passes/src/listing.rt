@@ -11,11 +11,18 @@ use pass_calls::begun_render::{RenderBegun, render_command};
 use pass_calls::ended::{Ended, ended_command};
 use played::places::{place, shown};
 use played::print::{Output, put_command};
+use std::io::Write;
 use transfer_calls::barriers::{Barriers, barrier_command};
 use transfer_calls::regions::{Copies, copy_command};
 use transfer_calls::resolved::{Resolved, resolved_command};
 
-pub(crate) fn put_render(out: &mut [u8], output: Output, batch: RenderBegun, right: bool) -> Output
+pub(crate) fn put_render<W: Write>(
+    writer: &mut W,
+    out: &mut [u8],
+    output: Output,
+    batch: RenderBegun,
+    right: bool,
+) -> Output
     requires { (i : ℕ) → i < batch.n → RenderAllowed batch i }
 {
     let first = batch.at;
@@ -24,13 +31,14 @@ pub(crate) fn put_render(out: &mut [u8], output: Output, batch: RenderBegun, rig
     let mut i: usize = 0;
     while i < n {
         let c = render_command(batch, i);
-        at = put_command(out, at, place(first, i), c);
+        at = put_command(writer, out, at, place(first, i), c);
         i += 1;
     }
     at
 }
 
-pub(crate) fn put_compute(
+pub(crate) fn put_compute<W: Write>(
+    writer: &mut W,
     out: &mut [u8],
     output: Output,
     batch: ComputeBegun,
@@ -44,13 +52,19 @@ pub(crate) fn put_compute(
     let mut i: usize = 0;
     while i < n {
         let c = compute_command(batch, i);
-        at = put_command(out, at, place(first, i), c);
+        at = put_command(writer, out, at, place(first, i), c);
         i += 1;
     }
     at
 }
 
-pub(crate) fn put_ended(out: &mut [u8], output: Output, batch: Ended, right: bool) -> Output
+pub(crate) fn put_ended<W: Write>(
+    writer: &mut W,
+    out: &mut [u8],
+    output: Output,
+    batch: Ended,
+    right: bool,
+) -> Output
     requires { (i : ℕ) → i < batch.n → EndAllowed batch i }
 {
     let first = batch.at;
@@ -59,13 +73,14 @@ pub(crate) fn put_ended(out: &mut [u8], output: Output, batch: Ended, right: boo
     let mut i: usize = 0;
     while i < n {
         let c = ended_command(batch, i);
-        at = put_command(out, at, place(first, i), c);
+        at = put_command(writer, out, at, place(first, i), c);
         i += 1;
     }
     at
 }
 
-pub(crate) fn put_barriers(
+pub(crate) fn put_barriers<W: Write>(
+    writer: &mut W,
     out: &mut [u8],
     output: Output,
     run: &[u32],
@@ -80,13 +95,14 @@ pub(crate) fn put_barriers(
     let mut i: usize = 0;
     while i < n {
         let c = barrier_command(run, batch, i);
-        at = put_command(out, at, place(first, i), c);
+        at = put_command(writer, out, at, place(first, i), c);
         i += 1;
     }
     at
 }
 
-pub(crate) fn put_copies(
+pub(crate) fn put_copies<W: Write>(
+    writer: &mut W,
     out: &mut [u8],
     output: Output,
     run: &[u64],
@@ -101,16 +117,22 @@ pub(crate) fn put_copies(
     let mut i: usize = 0;
     while i < n {
         let c = copy_command(run, batch, i);
-        at = put_command(out, at, place(first, i), c);
+        at = put_command(writer, out, at, place(first, i), c);
         i += 1;
     }
     at
 }
 
-pub(crate) fn put_resolved(out: &mut [u8], output: Output, batch: Resolved, right: bool) -> Output {
+pub(crate) fn put_resolved<W: Write>(
+    writer: &mut W,
+    out: &mut [u8],
+    output: Output,
+    batch: Resolved,
+    right: bool,
+) -> Output {
     if right & (0 < batch.n) {
         let c = resolved_command(batch, 0);
-        return put_command(out, output, batch.at as u64, c);
+        return put_command(writer, out, output, batch.at as u64, c);
     }
     output
 }

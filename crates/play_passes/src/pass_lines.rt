@@ -13,13 +13,21 @@ use played::print::Output;
 use played::{MAX_LABEL, MAX_NUMBERS, Played};
 use records::pipeline::PrivateCapabilities;
 use records::state::State;
+use std::io::Write;
 
 // The end of a pass that is planned: its commands are printed, and its answer is handed on.
-fn played_ended(out: &mut [u8], output: Output, plan: EndPlan, s: State, next: Cursor) -> Played
+fn played_ended<W: Write>(
+    writer: &mut W,
+    out: &mut [u8],
+    output: Output,
+    plan: EndPlan,
+    s: State,
+    next: Cursor,
+) -> Played
     requires { (i : ℕ) → i < plan.batch.n → EndAllowed plan.batch i }
 {
     let batch = plan.batch;
-    let printed = put_ended(out, output, batch, is_right(next));
+    let printed = put_ended(writer, out, output, batch, is_right(next));
     let answer = end_answer(plan, s);
     Played {
         answer,
@@ -29,7 +37,8 @@ fn played_ended(out: &mut [u8], output: Output, plan: EndPlan, s: State, next: C
 }
 
 // The beginning of a render pass whose label and queries are read.
-fn begin_render(
+fn begin_render<W: Write>(
+    writer: &mut W,
     out: &mut [u8],
     output: Output,
     room: usize,
@@ -56,7 +65,7 @@ fn begin_render(
     );
     write_render_label(bytes, label, plan);
     let batch = plan.batch;
-    let printed = put_render(out, output, batch, is_right(next));
+    let printed = put_render(writer, out, output, batch, is_right(next));
     let answer = render_answer(plan, s);
     Played {
         answer,
@@ -65,7 +74,8 @@ fn begin_render(
     }
 }
 
-pub(crate) fn play_begin_render_pass(
+pub(crate) fn play_begin_render_pass<W: Write>(
+    writer: &mut W,
     out: &mut [u8],
     output: Output,
     room: usize,
@@ -80,11 +90,14 @@ pub(crate) fn play_begin_render_pass(
     let a = take_render_pass(line, c, &mut label, &mut numbers);
     let past = a.next;
     let next = closed(line, past);
-    begin_render(out, output, room, bytes, &label, &numbers, a, next, caps, s)
+    begin_render(
+        writer, out, output, room, bytes, &label, &numbers, a, next, caps, s,
+    )
 }
 
 // The beginning of a compute pass whose label and queries are read.
-fn begin_compute(
+fn begin_compute<W: Write>(
+    writer: &mut W,
     out: &mut [u8],
     output: Output,
     room: usize,
@@ -111,7 +124,7 @@ fn begin_compute(
     );
     write_compute_label(bytes, label, plan);
     let batch = plan.batch;
-    let printed = put_compute(out, output, batch, is_right(next));
+    let printed = put_compute(writer, out, output, batch, is_right(next));
     let answer = compute_answer(plan, s);
     Played {
         answer,
@@ -120,7 +133,8 @@ fn begin_compute(
     }
 }
 
-pub(crate) fn play_begin_compute_pass(
+pub(crate) fn play_begin_compute_pass<W: Write>(
+    writer: &mut W,
     out: &mut [u8],
     output: Output,
     room: usize,
@@ -135,10 +149,13 @@ pub(crate) fn play_begin_compute_pass(
     let a = take_compute_pass(line, c, &mut label, &mut numbers);
     let past = a.next;
     let next = closed(line, past);
-    begin_compute(out, output, room, bytes, &label, &numbers, a, next, caps, s)
+    begin_compute(
+        writer, out, output, room, bytes, &label, &numbers, a, next, caps, s,
+    )
 }
 
-pub(crate) fn play_end_render_pass(
+pub(crate) fn play_end_render_pass<W: Write>(
+    writer: &mut W,
     out: &mut [u8],
     output: Output,
     room: usize,
@@ -149,10 +166,11 @@ pub(crate) fn play_end_render_pass(
 ) -> Played {
     let next = closed(line, c);
     let plan = plan_end_render_pass(room, caps, s);
-    played_ended(out, output, plan, s, next)
+    played_ended(writer, out, output, plan, s, next)
 }
 
-pub(crate) fn play_end_compute_pass(
+pub(crate) fn play_end_compute_pass<W: Write>(
+    writer: &mut W,
     out: &mut [u8],
     output: Output,
     room: usize,
@@ -163,5 +181,5 @@ pub(crate) fn play_end_compute_pass(
 ) -> Played {
     let next = closed(line, c);
     let plan = plan_end_compute_pass(room, caps, s);
-    played_ended(out, output, plan, s, next)
+    played_ended(writer, out, output, plan, s, next)
 }

@@ -7,13 +7,15 @@ use played::print::Output;
 use played::{MAX_NUMBERS, MAX_REGIONS, Played};
 use records::pipeline::PrivateCapabilities;
 use records::state::State;
+use std::io::Write;
 use transfer_calls::barriers::barriers_answer;
 use transfer_calls::regions::copies_answer;
 use transfer_calls::resolved::{copy_queries, resolved_answer};
 use transfer_calls::results::plan_copy_query_results;
 use transfer_calls::transfers::{plan_copy_buffer_to_buffer, plan_transition_buffers};
 
-pub fn play_copy_query_results(
+pub fn play_copy_query_results<W: Write>(
+    writer: &mut W,
     out: &mut [u8],
     output: Output,
     room: usize,
@@ -42,7 +44,7 @@ pub fn play_copy_query_results(
     );
     copy_queries(queries, &numbers, plan);
     let batch = plan.batch;
-    let printed = put_resolved(out, output, batch, is_right(next));
+    let printed = put_resolved(writer, out, output, batch, is_right(next));
     let answer = resolved_answer(plan, s);
     Played {
         answer,
@@ -51,7 +53,8 @@ pub fn play_copy_query_results(
     }
 }
 
-pub(crate) fn play_transition_buffers(
+pub(crate) fn play_transition_buffers<W: Write>(
+    writer: &mut W,
     out: &mut [u8],
     output: Output,
     room: usize,
@@ -66,7 +69,7 @@ pub(crate) fn play_transition_buffers(
     let next = closed(line, past);
     let plan = plan_transition_buffers(&numbers, room, a.count, caps, s);
     let batch = plan.batch;
-    let printed = put_barriers(out, output, &numbers, batch, is_right(next));
+    let printed = put_barriers(writer, out, output, &numbers, batch, is_right(next));
     let answer = barriers_answer(plan, s);
     Played {
         answer,
@@ -75,7 +78,8 @@ pub(crate) fn play_transition_buffers(
     }
 }
 
-pub(crate) fn play_copy_buffer_to_buffer(
+pub(crate) fn play_copy_buffer_to_buffer<W: Write>(
+    writer: &mut W,
     out: &mut [u8],
     output: Output,
     room: usize,
@@ -91,7 +95,7 @@ pub(crate) fn play_copy_buffer_to_buffer(
     let next = a.next;
     let plan = plan_copy_buffer_to_buffer(&regions, room, a.count, caps, s, src, dst);
     let batch = plan.batch;
-    let printed = put_copies(out, output, &regions, batch, is_right(next));
+    let printed = put_copies(writer, out, output, &regions, batch, is_right(next));
     let answer = copies_answer(plan, s);
     Played {
         answer,

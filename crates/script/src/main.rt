@@ -13,6 +13,7 @@ use records::state::State;
 use sessions::header::{Header, take_header};
 use sessions::input::{Input, MAX_TURNS, line_number, new_input, next_line, turns_left};
 use sessions::verdict::played_length;
+use std::io::{Read, Write};
 
 // Where the reading stands, how much of the output buffer is used, and whether there is more.
 #[derive(Clone, Copy)]
@@ -23,19 +24,31 @@ struct Place {
 }
 
 // The last line of a session: `===`, or what is wrong.
-fn put_end(out: &mut [u8], used: usize, input: Input, wrong: Cursor) -> usize {
+fn put_end<W: Write>(
+    writer: &mut W,
+    out: &mut [u8],
+    used: usize,
+    input: Input,
+    wrong: Cursor,
+) -> usize {
     if is_right(wrong) {
-        return put(out, used, b"===\n");
+        return put(writer, out, used, b"===\n");
     }
-    put_error(out, used, line_number(input), wrong)
+    put_error(writer, out, used, line_number(input), wrong)
 }
 
 // What a session ends with after its state: the answers, and its last line.
-fn put_rest(out: &mut [u8], answers: &[u8], stated: usize, tally: Tally) -> Place {
+fn put_rest<W: Write>(
+    writer: &mut W,
+    out: &mut [u8],
+    answers: &[u8],
+    stated: usize,
+    tally: Tally,
+) -> Place {
     let input = tally.input;
     let wrong = tally.wrong;
-    let answered = put_answers(out, stated, answers, tally.done);
-    let used = put_end(out, answered, input, wrong);
+    let answered = put_answers(writer, out, stated, answers, tally.done);
+    let used = put_end(writer, out, answered, input, wrong);
     Place {
         input,
         used,
@@ -44,9 +57,11 @@ fn put_rest(out: &mut [u8], answers: &[u8], stated: usize, tally: Tally) -> Plac
 }
 
 // A session whose first line is right: its calls, then the open list, the state and the rest.
-fn run_session(
+fn run_session<R: Read, W: Write>(
+    reader: &mut R,
     buffer: &mut [u8],
     line: &mut [u8],
+    writer: &mut W,
     out: &mut [u8],
     bytes: &mut [u8],
     queries: &mut [u32],
@@ -63,9 +78,19 @@ fn run_session(
         let before = tally.input;
         let output = tally.output;
         let progress = s.progress;
-        let next = next_line(buffer, line, before);
+        let next = next_line(reader, buffer, line, before);
         let n = played_length(next.long, next.length, line.len());
-        let p = play(out, output, h.commands, bytes, queries, &line[..n], caps, s);
+        let p = play(
+            writer,
+            out,
+            output,
+            h.commands,
+            bytes,
+            queries,
+            &line[..n],
+            caps,
+            s,
+        );
         let past = p.next;
         let printed = p.output;
         let answer = p.answer;
@@ -73,14 +98,14 @@ fn run_session(
         let after = answer.state;
         let reached = after.progress;
         let call = call_of(progress, reached, past, printed, outcome);
-        tally = told(out, bytes, queries, answers, tally, next, call);
+        tally = told(writer, out, bytes, queries, answers, tally, next, call);
         s = state_after(tally.right, s, after);
         turns = turns_left(turns, !tally.right);
     }
     let last = s.progress;
-    let listed = put_open_list(out, bytes, queries, tally, last);
-    let stated = put_state(out, listed, s);
-    put_rest(out, answers, stated, tally)
+    let listed = put_open_list(writer, out, bytes, queries, tally, last);
+    let stated = put_state(writer, out, listed, s);
+    put_rest(writer, out, answers, stated, tally)
 }
 
 // The first line of the next session: where the reading stands after it, whether there is a session
@@ -92,21 +117,35 @@ struct Opening {
 }
 
 // What is wrong with a first line is printed, where there is one.
-fn put_refusal(out: &mut [u8], used: usize, input: Input, wrong: Cursor) -> usize {
+fn put_refusal<W: Write>(
+    writer: &mut W,
+    out: &mut [u8],
+    used: usize,
+    input: Input,
+    wrong: Cursor,
+) -> usize {
     if input.there & (!is_right(wrong)) {
-        return put_error(out, used, input.number, wrong);
+        return put_error(writer, out, used, input.number, wrong);
     }
     used
 }
 
 // The next session's first line is read.
-fn open(buffer: &mut [u8], line: &mut [u8], out: &mut [u8], at: Place, most: usize) -> Opening {
+fn open<R: Read, W: Write>(
+    reader: &mut R,
+    buffer: &mut [u8],
+    line: &mut [u8],
+    writer: &mut W,
+    out: &mut [u8],
+    at: Place,
+    most: usize,
+) -> Opening {
     let before = at.input;
-    let input = next_line(buffer, line, before);
+    let input = next_line(reader, buffer, line, before);
     let n = within(input.length, line.len());
     let header = take_header(&line[..n], most);
     let wrong = header.next;
-    let used = put_refusal(out, at.used, input, wrong);
+    let used = put_refusal(writer, out, at.used, input, wrong);
     let place = Place {
         input,
         used,
@@ -116,16 +155,18 @@ fn open(buffer: &mut [u8], line: &mut [u8], out: &mut [u8], at: Place, most: usi
 }
 
 // A session, where there is one more.
-fn session(
+fn session<R: Read, W: Write>(
+    reader: &mut R,
     buffer: &mut [u8],
     line: &mut [u8],
+    writer: &mut W,
     out: &mut [u8],
     bytes: &mut [u8],
     queries: &mut [u32],
     answers: &mut [u8],
     at: Place,
 ) -> Place {
-    let opening = open(buffer, line, out, at, answers.len());
+    let opening = open(reader, buffer, line, writer, out, at, answers.len());
     let place = opening.place;
     let h = opening.header;
     if !place.more {
@@ -134,8 +175,10 @@ fn session(
     let b = within(h.bytes, bytes.len());
     let q = within(h.queries, queries.len());
     run_session(
+        reader,
         buffer,
         line,
+        writer,
         out,
         &mut bytes[..b],
         &mut queries[..q],
@@ -145,7 +188,9 @@ fn session(
     )
 }
 
-fn main() {
+fn main(rt: HostRuntime) {
+    let mut reader = rt.stdin();
+    let mut writer = rt.stdout();
     let mut buffer = [0u8; 65536];
     let mut line = [0u8; 524288];
     let mut out = [0u8; 65536];
@@ -160,8 +205,10 @@ fn main() {
     let mut turns = MAX_TURNS;
     while 0 < turns {
         at = session(
+            &mut reader,
             &mut buffer,
             &mut line,
+            &mut writer,
             &mut out,
             &mut bytes,
             &mut queries,
@@ -170,5 +217,5 @@ fn main() {
         );
         turns = turns_left(turns, !at.more);
     }
-    flush(&out, at.used);
+    flush(&mut writer, &out, at.used);
 }

@@ -6,6 +6,7 @@ use records::outcome::{Outcome, number_of};
 use records::state::{Phase, Progress, State};
 use sessions::input::Input;
 use sessions::verdict::verdict;
+use std::io::Write;
 
 // How far a session has come, beside its state: whether a list is finished, the output, the input,
 // how many calls are played, and what is wrong with the last line, if anything is.
@@ -52,7 +53,8 @@ fn finished(before: Phase, after: Phase) -> bool {
 }
 
 // What ends a finished list: its marker bytes and its queries.
-fn put_list_end(
+fn put_list_end<W: Write>(
+    writer: &mut W,
     out: &mut [u8],
     bytes: &[u8],
     queries: &[u32],
@@ -61,9 +63,9 @@ fn put_list_end(
     p: Progress,
 ) -> Output {
     if done {
-        let divided = put_divider(out, output);
-        let marked = put_bytes(out, divided, bytes, p.bytes);
-        let used = put_queries(out, marked, queries, p.queries);
+        let divided = put_divider(writer, out, output);
+        let marked = put_bytes(writer, out, divided, bytes, p.bytes);
+        let used = put_queries(writer, out, marked, queries, p.queries);
         return Output { used, divide: true };
     }
     output
@@ -108,7 +110,8 @@ fn noted(answers: &mut [u8], done: usize, right: bool, answer: u8) -> usize {
 }
 
 // A call is told: the list that it ends, and its answer.
-pub fn told(
+pub fn told<W: Write>(
+    writer: &mut W,
     out: &mut [u8],
     bytes: &[u8],
     queries: &[u32],
@@ -123,7 +126,7 @@ pub fn told(
     let ends = right & call.ends;
     let printed = call.output;
     let progress = call.progress;
-    let output = put_list_end(out, bytes, queries, printed, ends, progress);
+    let output = put_list_end(writer, out, bytes, queries, printed, ends, progress);
     let done = noted(answers, before.done, right, call.number);
     Tally {
         listed: before.listed | ends,
@@ -136,7 +139,8 @@ pub fn told(
 }
 
 // The list that is open at the end, where it has a command or is the only one.
-pub fn put_open_list(
+pub fn put_open_list<W: Write>(
+    writer: &mut W,
     out: &mut [u8],
     bytes: &[u8],
     queries: &[u32],
@@ -147,8 +151,8 @@ pub fn put_open_list(
     let phase = p.phase;
     let open = (!in_closed(phase)) & (0 < p.commands);
     if open | (!tally.listed) {
-        let marked = put_bytes(out, output.used, bytes, p.bytes);
-        return put_queries(out, marked, queries, p.queries);
+        let marked = put_bytes(writer, out, output.used, bytes, p.bytes);
+        return put_queries(writer, out, marked, queries, p.queries);
     }
     output.used
 }

@@ -2,6 +2,7 @@
 use flat::cursor::{Cursor, closed, start, take_u32};
 use played::print::{put, put_number};
 use spans::{Span, span_number};
+use std::io::Write;
 
 // The lower and the upper number, and the cursor past the line or what is wrong with it.
 #[derive(Clone, Copy)]
@@ -24,25 +25,31 @@ pub fn take_bounds(line: &[u8]) -> Bounds {
     }
 }
 
-fn put_masks(out: &mut [u8], used: usize, always: u32, sometimes: u32) -> usize {
-    let named = put(out, used, b"always ");
-    let first = put_number(out, named, always as u64);
-    let between = put(out, first, b" sometimes ");
-    let second = put_number(out, between, sometimes as u64);
-    put(out, second, b"\n")
+fn put_masks<W: Write>(
+    writer: &mut W,
+    out: &mut [u8],
+    used: usize,
+    always: u32,
+    sometimes: u32,
+) -> usize {
+    let named = put(writer, out, used, b"always ");
+    let first = put_number(writer, out, named, always as u64);
+    let between = put(writer, out, first, b" sometimes ");
+    let second = put_number(writer, out, between, sometimes as u64);
+    put(writer, out, second, b"\n")
 }
 
-fn put_refused(out: &mut [u8], used: usize, number: u8) -> usize {
-    let named = put(out, used, b"refused ");
-    let numbered = put_number(out, named, number as u64);
-    put(out, numbered, b"\n")
+fn put_refused<W: Write>(writer: &mut W, out: &mut [u8], used: usize, number: u8) -> usize {
+    let named = put(writer, out, used, b"refused ");
+    let numbered = put_number(writer, out, named, number as u64);
+    put(writer, out, numbered, b"\n")
 }
 
 // The masks, or the number of the refusal.
-pub fn put_span(out: &mut [u8], used: usize, r: Span) -> usize {
+pub fn put_span<W: Write>(writer: &mut W, out: &mut [u8], used: usize, r: Span) -> usize {
     match r {
-        Span::Masks(always, sometimes) => put_masks(out, used, always, sometimes),
-        Span::Broken(_) => put_refused(out, used, span_number(r)),
-        Span::Reversed => put_refused(out, used, span_number(r)),
+        Span::Masks(always, sometimes) => put_masks(writer, out, used, always, sometimes),
+        Span::Broken(_) => put_refused(writer, out, used, span_number(r)),
+        Span::Reversed => put_refused(writer, out, used, span_number(r)),
     }
 }

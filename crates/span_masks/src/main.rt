@@ -16,6 +16,7 @@ use sessions::header::{Header, take_header};
 use sessions::input::{Input, MAX_TURNS, line_number, new_input, next_line, turns_left};
 use sessions::verdict::{played_length, verdict};
 use spans::rebound_span;
+use std::io::{Read, Write};
 
 // How many calls a session may have: as many as `script` takes.
 const MAX_CALLS: usize = 65536;
@@ -29,7 +30,13 @@ struct Place {
 }
 
 // After a line that must be there: there is more where it is right; otherwise that is printed.
-fn after_line(out: &mut [u8], used: usize, input: Input, wrong: Cursor) -> Place {
+fn after_line<W: Write>(
+    writer: &mut W,
+    out: &mut [u8],
+    used: usize,
+    input: Input,
+    wrong: Cursor,
+) -> Place {
     if is_right(wrong) {
         return Place {
             input,
@@ -37,7 +44,7 @@ fn after_line(out: &mut [u8], used: usize, input: Input, wrong: Cursor) -> Place
             more: true,
         };
     }
-    let told = put_error(out, used, line_number(input), wrong);
+    let told = put_error(writer, out, used, line_number(input), wrong);
     Place {
         input,
         used: told,
@@ -58,9 +65,11 @@ struct Ran {
 // never written out. It never fills: a call records at most 4,096 commands, `text::write_command`
 // puts a line together in 384 bytes, and 4,096 times 384 is the run's length. Nothing else is
 // printed, since no divider is due.
-fn run_calls(
+fn run_calls<R: Read, W: Write>(
+    reader: &mut R,
     buffer: &mut [u8],
     line: &mut [u8],
+    writer: &mut W,
     unread: &mut [u8],
     bytes: &mut [u8],
     queries: &mut [u32],
@@ -74,13 +83,23 @@ fn run_calls(
     let mut s = State::new();
     let mut turns = h.calls;
     while 0 < turns {
-        input = next_line(buffer, line, input);
+        input = next_line(reader, buffer, line, input);
         let n = played_length(input.long, input.length, line.len());
         let output = Output {
             used: 0,
             divide: false,
         };
-        let p = play(unread, output, room, bytes, queries, &line[..n], caps, s);
+        let p = play(
+            writer,
+            unread,
+            output,
+            room,
+            bytes,
+            queries,
+            &line[..n],
+            caps,
+            s,
+        );
         let past = p.next;
         let answer = p.answer;
         s = answer.state;
@@ -95,7 +114,8 @@ fn run_calls(
 }
 
 // What a session ends with: the masks of its state, or what is wrong with its last line.
-fn put_end(
+fn put_end<W: Write>(
+    writer: &mut W,
     out: &mut [u8],
     used: usize,
     ran: Ran,
@@ -105,13 +125,13 @@ fn put_end(
 ) -> Place {
     let input = ran.input;
     let wrong = ran.wrong;
-    let place = after_line(out, used, input, wrong);
+    let place = after_line(writer, out, used, input, wrong);
     if !place.more {
         return place;
     }
     let s = ran.state;
     let r = rebound_span(caps, s, lower, upper);
-    let told = put_span(out, used, r);
+    let told = put_span(writer, out, used, r);
     Place {
         input,
         used: told,
@@ -126,20 +146,29 @@ struct Opening {
     header: Header,
 }
 
-fn open(buffer: &mut [u8], line: &mut [u8], out: &mut [u8], at: Place) -> Opening {
+fn open<R: Read, W: Write>(
+    reader: &mut R,
+    buffer: &mut [u8],
+    line: &mut [u8],
+    writer: &mut W,
+    out: &mut [u8],
+    at: Place,
+) -> Opening {
     let before = at.input;
-    let input = next_line(buffer, line, before);
+    let input = next_line(reader, buffer, line, before);
     let n = within(input.length, line.len());
     let header = take_header(&line[..n], MAX_CALLS);
     let wrong = header.next;
-    let place = after_line(out, at.used, input, wrong);
+    let place = after_line(writer, out, at.used, input, wrong);
     Opening { place, header }
 }
 
 // The session after the line of a span.
-fn session(
+fn session<R: Read, W: Write>(
+    reader: &mut R,
     buffer: &mut [u8],
     line: &mut [u8],
+    writer: &mut W,
     out: &mut [u8],
     unread: &mut [u8],
     bytes: &mut [u8],
@@ -147,7 +176,7 @@ fn session(
     at: Place,
     bounds: Bounds,
 ) -> Place {
-    let opening = open(buffer, line, out, at);
+    let opening = open(reader, buffer, line, writer, out, at);
     let place = opening.place;
     let h = opening.header;
     if !place.more {
@@ -158,15 +187,25 @@ fn session(
     let b = within(h.bytes, bytes.len());
     let q = within(h.queries, queries.len());
     let ran = run_calls(
+        reader,
         buffer,
         line,
+        writer,
         unread,
         &mut bytes[..b],
         &mut queries[..q],
         from,
         h,
     );
-    put_end(out, place.used, ran, caps, bounds.lower, bounds.upper)
+    put_end(
+        writer,
+        out,
+        place.used,
+        ran,
+        caps,
+        bounds.lower,
+        bounds.upper,
+    )
 }
 
 // The line of a span: where the reading stands after it, whether there is one and it is right, and
@@ -177,9 +216,16 @@ struct Asked {
     bounds: Bounds,
 }
 
-fn ask(buffer: &mut [u8], line: &mut [u8], out: &mut [u8], at: Place) -> Asked {
+fn ask<R: Read, W: Write>(
+    reader: &mut R,
+    buffer: &mut [u8],
+    line: &mut [u8],
+    writer: &mut W,
+    out: &mut [u8],
+    at: Place,
+) -> Asked {
     let before = at.input;
-    let input = next_line(buffer, line, before);
+    let input = next_line(reader, buffer, line, before);
     let n = within(input.length, line.len());
     let bounds = take_bounds(&line[..n]);
     if !input.there {
@@ -191,30 +237,36 @@ fn ask(buffer: &mut [u8], line: &mut [u8], out: &mut [u8], at: Place) -> Asked {
         return Asked { place, bounds };
     }
     let wrong = bounds.next;
-    let place = after_line(out, at.used, input, wrong);
+    let place = after_line(writer, out, at.used, input, wrong);
     Asked { place, bounds }
 }
 
 // The next span and its session, where there is one more.
-fn next_span(
+fn next_span<R: Read, W: Write>(
+    reader: &mut R,
     buffer: &mut [u8],
     line: &mut [u8],
+    writer: &mut W,
     out: &mut [u8],
     unread: &mut [u8],
     bytes: &mut [u8],
     queries: &mut [u32],
     at: Place,
 ) -> Place {
-    let asked = ask(buffer, line, out, at);
+    let asked = ask(reader, buffer, line, writer, out, at);
     let place = asked.place;
     let bounds = asked.bounds;
     if !place.more {
         return place;
     }
-    session(buffer, line, out, unread, bytes, queries, place, bounds)
+    session(
+        reader, buffer, line, writer, out, unread, bytes, queries, place, bounds,
+    )
 }
 
-fn main() {
+fn main(rt: HostRuntime) {
+    let mut reader = rt.stdin();
+    let mut writer = rt.stdout();
     let mut buffer = [0u8; 65536];
     let mut line = [0u8; 524288];
     let mut out = [0u8; 65536];
@@ -229,8 +281,10 @@ fn main() {
     let mut turns = MAX_TURNS;
     while 0 < turns {
         at = next_span(
+            &mut reader,
             &mut buffer,
             &mut line,
+            &mut writer,
             &mut out,
             &mut unread,
             &mut bytes,
@@ -239,5 +293,5 @@ fn main() {
         );
         turns = turns_left(turns, !at.more);
     }
-    flush(&out, at.used);
+    flush(&mut writer, &out, at.used);
 }

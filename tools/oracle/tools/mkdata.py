@@ -2,7 +2,7 @@
 """Writes the comparison data (README.md, 'The comparison data'): sessions as numbers and what the
 Rust with the landed requests records for them, held against the published Rust (requests.py).
 Everything comes from seeds and from the scripts at hand, so two runs are equal."""
-import glob, os, re, subprocess, sys, tempfile
+import glob, os, re, subprocess, sys, tempfile, shutil
 import requests
 ROOT = os.path.dirname(os.path.dirname(os.path.abspath(__file__)))
 TARGET = os.environ.get("CARGO_TARGET_DIR", os.path.join(ROOT, "target"))
@@ -217,6 +217,8 @@ def main():
         index.append(f"{i} {name} {''.join(h[:4])} {'/'.join(h[4:7])} {h[7]} {r} {1 + o.count('---' + chr(10))} {sum(l[0].isdigit() for l in o.splitlines())} {requests.mark(held.by)}")
     for n, t in (("sessions.flat", "".join(flat)), ("sessions.out", "".join(out)), ("sessions.index", "\n".join(index) + "\n")):
         open(os.path.join(DATA, n), "w").write(t)
+    for n, at in (("sessions.flat", "stdin"), ("sessions.out", "stdout")):
+        shutil.copyfile(os.path.join(DATA, n), os.path.join(ROOT, "../../crates/script", at))
     sys.exit(count(tally))
 
 def count(tally):

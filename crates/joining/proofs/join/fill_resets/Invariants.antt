@@ -1,0 +1,11 @@
+use Rattle.std.proofs.Common.{◌-◌}
+use Rattle.walks.proofs.Fronts.{Front}
+use Rattle.joining.specs.Joins.{record_of}
+use Rattle.joining.specs.Plan.{reset_at}
+use Rattle.joining.proofs.join.fill_resets.Given as goal
+
+abbrev pub invariant-loop-i : goal.invariant-loop-i
+invariant-loop-i l = Front (λ i. record_of (reset_at l.batch i)) l.initial.list l.at l.n l.list l.i
+
+abbrev pub decreases-loop-i : goal.decreases-loop-i
+decreases-loop-i l = l.n - l.i

@@ -1,0 +1,5 @@
+use Rattle.joining.proofs.moving.moved_range.Goals as goal
+
+-- src/moving.rt:23:1
+pub returns : goal.returns
+returns c = simp (c.shifted-end.ensures, c.shifted-start.ensures)

@@ -1,0 +1,5 @@
+-- Measure: the turns left.
+use Rattle.script.proofs.main.Given as goal
+
+abbrev pub decreases-loop-turns : goal.decreases-loop-turns
+decreases-loop-turns l = l.turns
