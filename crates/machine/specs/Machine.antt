@@ -196,7 +196,7 @@ put_aspects a f = record { program = f.program; primitive = f.primitive; bias = 
 abbrev pub put_depth : DepthState → Fixed → Fixed
 put_depth d f = record { program = f.program; primitive = f.primitive; bias = f.bias; alpha = f.alpha; target = f.target; clip = f.clip; aspects = f.aspects; depth = some d }
 
--- OpenGL ES 3.2, 15.1.2: GL_FRONT (1028) and GL_BACK (1029) name one face, FRONT_AND_BACK (1032) both, and no other number names one
+-- OpenGL ES 3.2, 15.1.2: GL_FRONT (1028) and GL_BACK (1029) name one face, GL_FRONT_AND_BACK (1032) both, and no other number names one
 abbrev pub on_face : {A : Type 0} → ℕ → ℕ → A → Option A → Option A
 on_face own face x old = cond (eqb face own || eqb face 1032) (some x) old
 

@@ -108,7 +108,8 @@ pub fn scan_attributes(
         let behind = left;
         left = left - 1;
         let a = attributes[left];
-        let again = if a.location < 16 {
+        let masked = a.location < 16;
+        let again = if masked {
             mask::test(scan.seen, a.location)
         } else {
             stands_later(attributes, behind, count, a.location)

@@ -1,6 +1,6 @@
 use Prim.Native.Nat.{◌≤◌, ◌<◌}
-use mathlib.Core.Path.{◌≡◌, sym, ap, ◌∙◌}
-use mathlib.Core.Bool.{false}
+use mathlib.Core.Path.{◌≡◌}
+use mathlib.Core.Bool.{true, false}
 use Rattle.records.specs.Outcome.{accepted}
 use Rattle.spans.specs.Answer.{numbers}
 use Rattle.spans.specs.Span.{Always, Sometimes, Exactly, refusal, SpanOf}
@@ -12,7 +12,7 @@ use Rattle.spans.proofs.rebound_span.Goals as goal
 
 pub returns-then-not-ok : goal.returns-then-not-ok
 returns-then-not-ok c =
-    let off : accepted (refusal c.args.s) ≡ false = sym (c.accepted-ok.ensures ∙ ap accepted c.refusal-o.ensures) ∙ c.if-not-ok.true in
+    let off : accepted (refusal c.args.s) ≡ false = cc in
     let a = c.args in
     let h : SpanOf a.caps a.s a.lower a.upper (Broken c.refusal-o.result) = (off, c.refusal-o.ensures) in
     (h, numbers a.caps a.s a.lower a.upper (Broken c.refusal-o.result) h)
@@ -20,16 +20,14 @@ returns-then-not-ok c =
 pub returns-then-upper-lower : goal.returns-then-upper-lower
 returns-then-upper-lower c =
     let a = c.args in
-    let ok = sym (c.accepted-ok.ensures ∙ ap accepted c.refusal-o.ensures) ∙ c.if-not-ok.false in
+    let ok : accepted (refusal a.s) ≡ true = cc in
     let l : a.upper < a.lower = omega arith in
     ((ok, l), numbers a.caps a.s a.lower a.upper Reversed (ok, l))
 
 pub returns : goal.returns
 returns c =
     let a = c.args in
-    let is = c.accepted-ok.ensures in
-    let o = c.refusal-o.ensures in
-    let ok = sym (is ∙ ap accepted o) ∙ c.if-not-ok.false in
+    let ok : accepted (refusal a.s) ≡ true = cc in
     let l : a.lower ≤ a.upper = omega (arith, c.if-upper-lower.false) in
     let low = low-described a.s ok in
     let x : Exactly c.masks-m.result.always (Always a.caps a.s a.lower a.upper) =

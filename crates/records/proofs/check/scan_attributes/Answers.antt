@@ -9,7 +9,7 @@ use Rattle.records.specs.Check.{among, locations}
 use Rattle.records.specs.Scan.{scanned, seen-before}
 use Rattle.records.specs.Start.{start_attribute}
 use Rattle.records.proofs.Scanning.{none-behind, one-counted}
-use Rattle.records.proofs.check.scan_attributes.Goals.{then-a-lt16, else-a-lt16}
+use Rattle.records.proofs.check.scan_attributes.Goals.{then-masked, else-masked}
 use Rattle.records.proofs.check.scan_attributes.Goals as goal
 
 pub loop-left-init : goal.loop-left-init
@@ -31,10 +31,10 @@ loop-left-preserved c =
     let e : length c.args.attributes ≡ 16 = c.well_formed.0.1.0.1 in
     let a = get_or c.args.attributes (l.left - 1) start_attribute in
     let later = drop l.left (take c.args.count c.args.attributes) in
-    let again : c.if-a-lt16.again ≡ among a.location (locations later) =
-    elim c.if-a-lt16.branch [
-      | then-a-lt16 w ↦ w.again-is ∙ w.test-again.ensures ∙ ap (λ (x : AttributeScan). test_bit x.seen a.location) l.invariant.1 ∙ seen-before later a.location w.if-a-lt16.true
-      | else-a-lt16 w ↦ w.again-is ∙ w.stands_later-again.ensures
+    let again : c.if-masked.again ≡ among a.location (locations later) =
+    elim c.if-masked.branch [
+      | then-masked w ↦ w.again-is ∙ w.test-again.ensures ∙ ap (λ (x : AttributeScan). test_bit x.seen a.location) l.invariant.1 ∙ seen-before later a.location w.if-masked.true
+      | else-masked w ↦ w.again-is ∙ w.stands_later-again.ensures
     ] in (
       omega arith,
       rw (
