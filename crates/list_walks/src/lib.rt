@@ -1,2 +1,3 @@
-// Loops over lent lists: what contracts say of them, and lemmas for their turns.
+// Functions that read and rewrite lent lists, as shapes: a shape is proved once, for every function
+// that has it. And lemmas for the turns of their loops.
 #![tactic(auto)]
