@@ -1,8 +1,16 @@
--- Each draw of a lent run finds blend constants that are `f32`s: the fresh machine's are, and the records set no others. Assumes nothing.
+-- Each draw of a lent run finds blend constants that are `f32`s: the fresh machine's are, and a record holds no others. Assumes nothing.
 use mathlib.Core.Path.{◌≡◌, refl, sym, subst}
 use mathlib.Core.Bool.{Bool, true, false}
 use mathlib.Core.List.{List, [], ◌∷◌}
 use lib.Ieee.{fits, of_bits}
+use lib.ListN.{take}
+use Prim.Native.Nat.{ℕ, zero, suc}
+use denote.Floats.{passes}
+use Rattle.walks.proofs.Args.{of_struct}
+use Rattle.list_walks.proofs.Elements.{Element, Good, Goods}
+use Rattle.records.specs.declared.command.ColorF32.{ColorF32}
+use Rattle.records.specs.contracts.command.Record as R
+use Rattle.records.proofs.command.Record.TheLaws as R'
 use Rattle.records.specs.declared.command.Command.{Command}
 use Rattle.records.specs.declared.command.Command.TheVariants.{Draw, DrawIndexed, DrawIndirect, DrawIndexedIndirect, Dispatch, DispatchIndirect, ClearBuffer, CopyBufferToBuffer}
 use Rattle.records.specs.declared.command.Command.TheVariants.{SetIndexBuffer, BeginQuery, EndQuery, TimestampQuery, CopyQueryResults, ResetFramebuffer, BindAttachment}
@@ -15,8 +23,8 @@ use Rattle.records.specs.declared.command.Record.{Record}
 use Rattle.machine.specs.Each.{Each}
 use Rattle.machine.specs.Machine.{Gl, fresh_gl}
 use Rattle.lists.specs.declared.limits.Used.{Used}
-use Rattle.lists.specs.Class.{class_of, draws}
-use Rattle.lists.specs.Floats.{SetsF32}
+use Rattle.lists.specs.Class.{class_of, draws, commands_of}
+use Rattle.lists.specs.Floats.{SetsF32, AreF32}
 use Rattle.lists.specs.Limits.{handed}
 use Rattle.lists.specs.Shots.{settings_after, shots_from}
 use Rattle.boards.specs.Remains.{IsF32, OfEach, OfConstants, FindsF32}
@@ -91,5 +99,28 @@ draws-fit (c ∷ cs) g e f = go (draws (class_of c)) refl (draws-fit cs (setting
         subst (OfConstants IsF32) (sym a.2) (subst Fits (sym a.1) f, rest)
     go false h rest = subst (OfConstants IsF32) (sym (at_other g c cs h)) rest
 
-pub finds-f32 : (l : List Record) (u : Used) → Each SetsF32 (handed l u).commands → FindsF32 (handed l u)
-finds-f32 l u e = draws-fit (handed l u).commands fresh_gl e fresh-fits
+-- where the commands set no others
+pub sets-find-f32 : (l : List Record) (u : Used) → Each SetsF32 (handed l u).commands → FindsF32 (handed l u)
+sets-find-f32 l u e = draws-fit (handed l u).commands fresh_gl e fresh-fits
+
+-- ---- a list in memory, each record of its type, sets no others
+-- a record and its size in bytes
+abbrev pub element : Element
+element = record { R = of_struct R.the_type R'.the_laws R'.the_plain R'.the_copy R'.mir refl; bytes = 56; bytes_is = refl; bytes_fit = tt }
+
+-- what a record with blend constants is made of: its command, the variant's one field, and the four floats of that
+color-fits : (x : ColorF32) → Good element.R (record { command = SetBlendConstant x }) → AreF32 x
+color-fits x e =
+    let color = e.1.1.0.1.1.1.1.0.1.1 in
+    (passes _ color.0.1, passes _ color.1.0.1, passes _ color.1.1.0.1, passes _ color.1.1.1.0.1)
+
+good-sets : (x : Record) → Good element.R x → SetsF32 x.command
+good-sets x e y is = color-fits y (subst (λ (c : Command). Good element.R (record { command = c })) is e)
+
+goods-set : (n : ℕ) (l : List Record) → Goods element.R l → Each SetsF32 (commands_of (take n l))
+goods-set zero l e = tt
+goods-set (suc n) [] e = tt
+goods-set (suc n) (x ∷ l) e = (good-sets x e.0, goods-set n l e.1)
+
+pub finds-f32 : (l : List Record) (u : Used) → Goods element.R l → FindsF32 (handed l u)
+finds-f32 l u e = sets-find-f32 l u (goods-set u.commands l e)

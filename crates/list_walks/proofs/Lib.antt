@@ -20,3 +20,5 @@ pub mod Passing
 pub mod Comparing
 pub mod ComparingAll
 pub mod Turned
+pub mod JoiningRuns
+pub mod JoiningLists

@@ -1,5 +1,5 @@
 -- The locals of a straight function (`Straight.antt`) past its plain ones: the one that holds `list.len()`, the one that holds `()`, and for each call that is lent the list a pointer and a slice, and two more where it is lent a run of numbers too.
---     wordItem, unitItem, spare        all of them as room, each in one item of the context
+--     may_item, spare        all of them as room, each in one item of the context
 --     pair-out, run_out        those of one call are taken out, and put back (pair-back, run-back)
 -- Says nothing of the crate. Assumes `Logic`.
 use mathlib.Core.Path.{◌≡◌, refl}

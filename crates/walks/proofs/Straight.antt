@@ -5,6 +5,7 @@
 --     Prog m i b       the statements that are left, where m locals of plain data have a value, i calls have taken the list, and b: the runs are still to be lent
 --     Chain            what is to be shown of them: that a call may be made, and that the contract follows. `Cites`      that the callees meet their contracts
 -- An argument is the number of its local, 0 for the first plain parameter. The lets are numbered on from the parameters, in their order.
+-- In the MIR the local that holds `list.len()` stands first behind those, the one that holds `()` next, and then those of each call that takes the list. The compiler numbers them as they first occur, so it makes this MIR where `list.len()` is asked before any call takes the list, and where, if a call that takes it returns nothing, the first such call does.
 -- Assumes `Logic`, and that the callees meet their contracts.
 use mathlib.Core.Path.{◌≡◌, refl, sym, ◌∙◌, ap, subst}
 use mathlib.Core.Bool.{Bool, true, false}

@@ -1,4 +1,4 @@
--- One turn more. What the last one leaves is the answer (`finds`), and the rest follows from the floats of the lent records (`finds-f32`, `answered`).
+-- One turn more. What the last one leaves is the answer (`finds`), and the rest follows from the floats of the lent records (`sets-find-f32`, `answered`).
 use Rattle.std.proofs.Common.{◌≡◌, ℕ, List, ◌∙◌}
 use Rattle.records.specs.declared.command.Record.{Record}
 use Rattle.list_walks.specs.Turns.{turns, reading}
@@ -12,7 +12,7 @@ use Rattle.boards.specs.Alike.{same_bits}
 use Rattle.boards.specs.Compared.{compared}
 use Rattle.boards.specs.Side.{no_record, start_of, turn_of, turns_of}
 use Rattle.boards.proofs.Finding.{finds}
-use Rattle.boards.proofs.Lent.{finds-f32}
+use Rattle.boards.proofs.Lent.{sets-find-f32}
 use Rattle.boards.proofs.StillUnequal.{answered}
 use Rattle.boards.proofs.compare.compare.Goals as goal
 
@@ -38,6 +38,6 @@ returns c =
     let p = c.survey-p.ensures in
     let q = c.survey-q.ensures in
     let end = turned_end _ _ _ _ _ _ _ _ _ _ c.loop-i.invariant c.loop-i-test.false in
-    answered _ _ (finds-f32 a u p.floats) (finds-f32 b v q.floats) _
+    answered _ _ (sets-find-f32 a u p.floats) (sets-find-f32 b v q.floats) _
     (c.answer_of.ensures
     ∙ played a u b v _ _ _ _ _ _ p.survey q.survey c.no_record-other.ensures c.turns_of-n.ensures c.start-m.ensures end)

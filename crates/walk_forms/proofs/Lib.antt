@@ -1,0 +1,3 @@
+pub mod Data
+pub mod Fitting
+pub mod Moving

@@ -1,0 +1,4 @@
+pub mod Filled
+pub mod Planned
+pub mod Moved
+pub mod Steps
