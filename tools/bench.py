@@ -51,8 +51,7 @@ def run(words, text=None):
 
 def build(folder):
     program = os.path.join(folder, "bench")
-    words = [sys.executable, os.path.join(HERE, "native", "build.py"), "bench", program, "--source", os.path.join(HERE, "bench"),
-             "--also", os.path.join(HERE, "harness", "lines.rt.txt"), "--plain"]
+    words = [sys.executable, os.path.join(HERE, "native", "build.py"), "bench", program, "--source", os.path.join(HERE, "bench"), "--plain"]
     if subprocess.run(words).returncode:
         sys.exit(2)
     return program

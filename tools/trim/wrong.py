@@ -9,14 +9,12 @@ sys.path.insert(0, os.path.join(os.path.dirname(os.path.dirname(os.path.abspath(
 import faults  # noqa: E402  (tools/native/faults.py)
 
 SEEN, TREAT, LIMITS, CLASS = "superseding/src/seen.rt", "superseding/src/treat.rt", "lists/src/limits.rt", "lists/src/class.rt"
-BACKWARD = "let mut i = n; while 0 < i { i -= 1; let r = list[i]; let c = blanked(a, i, r); a = look_back(a, i, r); list[i] = c; }"
-FORWARD = "let mut i: usize = 0; while i < n { let r = list[i]; let c = blanked(a, i, r); a = look_back(a, i, r); list[i] = c; i += 1; }"
 # file, the text, which stands there once, and what it becomes
 FAULTS = [
-    (TREAT, BACKWARD, FORWARD),  # the later one is taken out
-    (TREAT, "while 0 < i {", "while 1 < i {"),
+    (TREAT, "for i in (0..n).rev() {", "for i in 0..n {"),  # the later one is taken out
+    (TREAT, "for i in (0..n).rev() {", "for i in (1..n).rev() {"),
     (TREAT, "Command::UnsetVertexAttribute(16)", "Command::UnsetVertexAttribute(15)"),
-    (TREAT, "let mut i: usize = 0; let mut j: usize = 0;", "let mut i: usize = 1; let mut j: usize = 1;"),
+    (TREAT, "let mut j: usize = 0; for i in 0..n {", "let mut j: usize = 1; for i in 1..n {"),
     (TREAT, "list[j] = r;", ""),
     (TREAT, "let left = retain(list, n);", "let left = n;"),
     (TREAT, "blank_superseded(list, n, none)", "blank_superseded(list, list.len(), none)"),
@@ -49,14 +47,14 @@ FAULTS = [
     (SEEN, "Thing::Texture(_) => Mark::Nothing,", "Thing::Texture(u) => Mark::Sampler(u),"),
     (SEEN, "Thing::Attribute(_) => Mark::Nothing,", "Thing::Attribute(i) => Mark::VertexBuffer(i),"),
     (SEEN, "test(seen.samplers, u)", "test(seen.buffers, u)"),
-    (SEEN, "samplers: set(seen.samplers, u), singles: seen.singles,", "samplers: set(seen.samplers, u), singles: 0,"),
-    (SEEN, "buffers: set(seen.buffers, i), samplers: seen.samplers,", "buffers: set(seen.buffers, i), samplers: 0,"),
+    (SEEN, "samplers: set(seen.samplers, u), ..seen", "samplers: set(seen.samplers, u), singles: 0, ..seen"),
+    (SEEN, "buffers: set(seen.buffers, i), ..seen", "buffers: set(seen.buffers, i), samplers: 0, ..seen"),
     (SEEN, "if ends(class) { nothing_seen() }", "if ends(class) { Seen { buffers: 0, samplers: 0, singles: seen.singles } }"),
     (SEEN, "if ends(class) { nothing_seen() }", "if ends(class) { Seen { buffers: seen.buffers, samplers: 0, singles: 0 } }"),
     # values compared: of a sampler, of a vertex buffer, of an index buffer
     (CLASS, "Command::BindSampler(slot, _) => Class::Sets(Thing::Sampler(slot)),",
-     "Command::BindSampler(slot, OptionU32::None) => Class::Sets(Thing::Sampler(slot)),\n"
-     "        Command::BindSampler(slot, OptionU32::Some(s)) => Class::Sets(Thing::Sampler((slot % 16 + s % 16) % 16)),"),
+     "Command::BindSampler(slot, None) => Class::Sets(Thing::Sampler(slot)),\n"
+     "        Command::BindSampler(slot, Some(s)) => Class::Sets(Thing::Sampler((slot % 16 + s % 16) % 16)),"),
     (CLASS, "Command::SetVertexBuffer { index, .. } => Class::Sets(Thing::VertexBuffer(index)),",
      "Command::SetVertexBuffer { index, buffer, .. } => Class::Sets(Thing::VertexBuffer((index % 16 + buffer.raw % 16) % 16)),"),
     (CLASS, "Command::SetIndexBuffer(_) => Class::Sets(Thing::IndexBuffer),", "Command::SetIndexBuffer(b) => Class::Sets(Thing::Sampler(b % 16)),"),

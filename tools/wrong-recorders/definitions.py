@@ -1,5 +1,5 @@
 #!/usr/bin/env python3
-"""definitions.py SOURCE TARGET: the repository SOURCE without its functions and without its worked rows, in the new folder TARGET.
+"""definitions.py SOURCE TARGET: the repository SOURCE without its functions, traits and worked rows, in the new folder TARGET.
 
 What is left are the types, the definitions and the theorems about whole lists (`order`, `uniforms`), and of the crates below them types
 and specs alone. It is checked in about a minute, and only a theorem can refuse it."""
@@ -39,7 +39,7 @@ def without_functions(text):
     text = re.sub(r"(?m)^\s*//.*\n", "", text)
     text = re.sub(r"//[^\n]*", "", text)
     text = re.sub(r"(?m)^ghost use [^;]*;\n", "", text)
-    while found := re.search(r"(?m)^impl\b[^{]*\{", text):
+    while found := re.search(r"(?m)^(?:impl|(?:pub(?:\(crate\))? )?trait)\b[^{]*\{", text):
         text = text[: found.start()] + text[closing(text, found.end() - 1) :]
     while found := re.search(r"(?m)^(?:[ \t]*#\[[^\n]*\]\n)*[ \t]*(pub(\(crate\))?\s+)?(const\s+)?fn\s+\w+", text):
         place = found.end()

@@ -1,14 +1,13 @@
 // A bind group's commands: those of its entries, and then the samplers of the units that it
-// touches; the plan, and how it is written into the list. The contracts cite specs/Grouped.antt.
-ghost use Rattle.std.specs.Prelude.{ℕ, ◌+◌, ◌<◌, ◌≤◌, ◌≡◌, length};
-ghost use Rattle.walks.specs.Fill.{filled};
-ghost use Rattle.calls.specs.Did.{record_of};
+// touches; the plan and its batch. The contracts cite specs/Grouped.antt.
+ghost use Rattle.std.specs.Prelude.{◌≡◌};
 ghost use Rattle.binding_calls.specs.Grouped.{GroupAllowed, grouped_at, group_answer};
 
 use bindings::group_command::bind_group_command_at;
+use calls::batch::Batch;
 use calls::parts::{with_bind, with_progress};
 use records::binding::{BindGroup, GroupEntries, PipelineLayout};
-use records::command::{Command, Record};
+use records::command::Command;
 use records::outcome::Outcome;
 use records::state::{Answer, BindState, Progress, State};
 
@@ -37,56 +36,48 @@ pub struct GroupPlan {
     pub outcome: Outcome,
 }
 
-pub fn group_command(offsets: &[u32], batch: Grouped, i: usize) -> Command
-    requires { GroupAllowed offsets.now batch i }
-    ensures { result ≡ grouped_at offsets.now batch i }
-{
-    let layout = batch.layout;
-    let entries = batch.entries;
-    let group = batch.group;
-    let bind = batch.bind;
-    bind_group_command_at(
-        offsets,
-        batch.count,
-        layout,
-        batch.index,
-        entries,
-        group,
-        batch.first,
-        bind,
-        batch.units,
-        i as u32,
-    )
+// A batch with the dynamic offsets that its commands are worked out from.
+#[derive(Clone, Copy)]
+pub struct GroupCommands<'a> {
+    pub offsets: &'a [u32],
+    pub batch: &'a Grouped,
 }
 
-fn fill_group(list: &mut [Record], offsets: &[u32], at: usize, n: usize, batch: Grouped)
-    requires { (at + n ≤ length list.old) × ((i : ℕ) → i < n → GroupAllowed offsets.now batch i) }
-    ensures { list.new ≡ filled (λ i. record_of (grouped_at offsets.now batch i)) list.old at n }
-{
-    let mut i: usize = 0;
-    while i < n {
-        let c = group_command(offsets, batch, i);
-        list[at + i] = Record { command: c };
-        i += 1;
+impl<'a> Batch for GroupCommands<'a> {
+    ghost place_of = { λ b. b.batch.now.at };
+
+    ghost count_of = { λ b. b.batch.now.n };
+
+    ghost Allowed = { λ b. GroupAllowed b.offsets.now b.batch.now };
+
+    ghost command_at = { λ b. grouped_at b.offsets.now b.batch.now };
+
+    fn at(&self) -> usize {
+        self.batch.at
     }
-}
 
-fn group_batch(plan: GroupPlan) -> Grouped
-    ensures { result ≡ plan.batch }
-{
-    plan.batch
-}
+    fn count(&self) -> usize {
+        self.batch.n
+    }
 
-fn group_place(batch: Grouped) -> usize
-    ensures { result ≡ batch.at }
-{
-    batch.at
-}
-
-fn group_count(batch: Grouped) -> usize
-    ensures { result ≡ batch.n }
-{
-    batch.n
+    fn command(&self, i: usize) -> Command {
+        let layout = self.batch.layout;
+        let entries = self.batch.entries;
+        let group = self.batch.group;
+        let bind = self.batch.bind;
+        bind_group_command_at(
+            self.offsets,
+            self.batch.count,
+            layout,
+            self.batch.index,
+            entries,
+            group,
+            self.batch.first,
+            bind,
+            self.batch.units,
+            i as u32,
+        )
+    }
 }
 
 pub fn group_answer(plan: GroupPlan, s: State) -> Answer
@@ -96,14 +87,4 @@ pub fn group_answer(plan: GroupPlan, s: State) -> Answer
     let moved = with_progress(s, plan.progress);
     let state = with_bind(moved, plan.after);
     Answer { outcome, state }
-}
-
-pub(crate) fn record_group(list: &mut [Record], offsets: &[u32], plan: GroupPlan)
-    requires { (plan.batch.at + plan.batch.n ≤ length list.old) × ((i : ℕ) → i < plan.batch.n → GroupAllowed offsets.now plan.batch i) }
-    ensures { list.new ≡ filled (λ i. record_of (grouped_at offsets.now plan.batch i)) list.old plan.batch.at plan.batch.n }
-{
-    let batch = group_batch(plan);
-    let at = group_place(batch);
-    let n = group_count(batch);
-    fill_group(list, offsets, at, n, batch);
 }

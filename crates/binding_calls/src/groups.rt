@@ -1,6 +1,6 @@
 // `set_bind_group`: the plan, and the call. The contracts cite specs/Grouped.antt of this crate and
 // specs/Step.antt and Did.antt of `calls`.
-ghost use Rattle.std.specs.Prelude.{◌≤◌, ◌≡◌, cond, length};
+ghost use Rattle.std.specs.Prelude.{◌≤◌, ◌≡◌, length};
 ghost use Rattle.records.specs.declared.state.BindState.{BindState};
 ghost use Rattle.bindings.specs.Units.{sampler_commands};
 ghost use Rattle.calls.specs.Call.{set_bind_group};
@@ -8,11 +8,12 @@ ghost use Rattle.calls.specs.Did.{Lists};
 ghost use Rattle.calls.specs.Step.{set_bind_group_meaning};
 ghost use Rattle.binding_calls.specs.Grouped.{GroupOf, group_asks};
 
-use crate::grouped::{GroupPlan, Grouped, group_answer, record_group};
+use crate::grouped::{GroupCommands, GroupPlan, Grouped, group_answer};
 use bindings::group::{group_at, group_too_many};
 use bindings::sweep::{Sweep, sweep_entries};
 use bindings::units::dirty_units;
-use calls::judge::{commands_only, judge, list_rooms, spot_of};
+use calls::batch::record;
+use calls::judge::{commands_only, judge, list_rooms, spot_of, taken};
 use calls::phase::in_pass;
 use pass::marks::over_run;
 use records::binding::{BindGroup, GroupEntries, PipelineLayout};
@@ -27,16 +28,6 @@ fn sampler_count(units: u32) -> usize
     ensures { ((b : BindState) → result ≡ length (sampler_commands b units)) × (result ≤ 32) }
 {
     mask::count(units) as usize
-}
-
-// The new bind state, or what it was.
-fn taken_bind(ok: bool, new: BindState, old: BindState) -> BindState
-    ensures { result ≡ cond ok new old }
-{
-    if ok {
-        return new;
-    }
-    old
 }
 
 // The call's conditions, from what was found of the entries and the count of dynamic offsets; `short`
@@ -64,6 +55,8 @@ fn group_asks(
     }
 }
 
+// The count beside its run: one above the run is refused (condition 7), which a slice could not
+// say.
 pub fn plan_set_bind_group(
     offsets: &[u32],
     room: usize,
@@ -93,7 +86,7 @@ pub fn plan_set_bind_group(
     let place = spot_of(v.ok, p.commands, n);
     let progress = v.progress;
     let outcome = v.outcome;
-    let after = taken_bind(v.ok, bind, old);
+    let after = taken(v.ok, bind, old);
     GroupPlan {
         progress,
         after,
@@ -137,6 +130,12 @@ pub fn set_bind_group(
         entries,
         group,
     );
-    record_group(list, offsets, plan);
+    record(
+        list,
+        &GroupCommands {
+            offsets,
+            batch: &plan.batch,
+        },
+    );
     group_answer(plan, s)
 }

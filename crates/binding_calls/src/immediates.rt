@@ -2,13 +2,16 @@
 ghost use Rattle.calls.specs.Call.{set_immediates};
 ghost use Rattle.calls.specs.Did.{Marks};
 
-use crate::sending::{plan_set_immediates, record_immediates, sent_answer, write_bytes};
+use crate::sending::{plan_set_immediates, sent_answer, write_bytes};
+use calls::batch::record;
 use records::command::Record;
 use records::pipeline::PrivateCapabilities;
 use records::state::{Answer, State};
 
 // Writes `count` words from the byte `offset` on, and sends the words of each descriptor that shares
 // a written word or was not sent since the last pipeline call.
+// The count beside its run: one above the run is refused (condition 7), which a slice could not
+// say.
 pub fn set_immediates(
     list: &mut [Record],
     bytes: &mut [u8],
@@ -22,6 +25,6 @@ pub fn set_immediates(
 {
     let plan = plan_set_immediates(words, list.len(), bytes.len(), count, caps, s, offset);
     write_bytes(bytes, words, plan);
-    record_immediates(list, plan);
+    record(list, &plan.batch);
     sent_answer(plan, s)
 }

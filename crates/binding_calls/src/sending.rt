@@ -1,20 +1,19 @@
-// `set_immediates`: the plan, and how its commands and its marker bytes are written. The contracts
-// cite specs/ImmediatePlans.antt.
-ghost use Rattle.std.specs.Prelude.{ℕ, ◌+◌, ◌^◌, ◌<◌, ◌≤◌, ◌≡◌, cond, ◌&&◌, ltb, leb, length};
-ghost use Rattle.walks.specs.Fill.{filled};
-ghost use Rattle.calls.specs.Did.{record_of};
+// `set_immediates`: the plan, its batch, and how its marker bytes are written. The contracts cite
+// specs/ImmediatePlans.antt.
+ghost use Rattle.std.specs.Prelude.{◌+◌, ◌^◌, ◌≡◌, ◌&&◌, ltb, leb, length};
 ghost use Rattle.calls.specs.Step.{set_immediates_meaning};
 ghost use Rattle.binding_calls.specs.ImmediatePlans.{WorkedOf, SendAllowed, sent_at, BytesFit, bytes_sent, ImmediateOf, immediate_answer};
 
 use bindings::immediate_command::{Placed, immediate_command_at, place_descriptors};
 use bindings::immediates::{immediates_after, out_of_range, picked};
-use calls::judge::{Counts, byte_rooms, judge, past_u32, spot_of};
+use calls::batch::Batch;
+use calls::judge::{Counts, byte_rooms, judge, past_u32, spot_of, taken};
 use calls::parts::{with_immediates, with_progress};
 use calls::phase::{in_pass, range_asks};
 use numbers::bytes::byte_at;
 use pass::marks::over_run;
 use records::check::{broken_limits, within};
-use records::command::{Command, Record};
+use records::command::Command;
 use records::limits::{MAX_BYTES, MAX_IMMEDIATES};
 use records::outcome::Outcome;
 use records::pipeline::PrivateCapabilities;
@@ -51,43 +50,28 @@ pub struct ImmediatePlan {
     pub sent: bool,
 }
 
-pub fn sent_command(batch: Sending, i: usize) -> Command
-    requires { SendAllowed batch i }
-    ensures { result ≡ sent_at batch i }
-{
-    let state = batch.state;
-    let placed = batch.placed;
-    immediate_command_at(state, placed, i as u32)
-}
+impl Batch for Sending {
+    ghost place_of = { λ b. b.at };
 
-fn fill_sent(list: &mut [Record], at: usize, n: usize, batch: Sending)
-    requires { (at + n ≤ length list.old) × ((i : ℕ) → i < n → SendAllowed batch i) }
-    ensures { list.new ≡ filled (λ i. record_of (sent_at batch i)) list.old at n }
-{
-    let mut i: usize = 0;
-    while i < n {
-        let c = sent_command(batch, i);
-        list[at + i] = Record { command: c };
-        i += 1;
+    ghost count_of = { λ b. b.n };
+
+    ghost Allowed = { SendAllowed };
+
+    ghost command_at = { sent_at };
+
+    fn at(&self) -> usize {
+        self.at
     }
-}
 
-fn sent_batch(plan: ImmediatePlan) -> Sending
-    ensures { result ≡ plan.batch }
-{
-    plan.batch
-}
+    fn count(&self) -> usize {
+        self.n
+    }
 
-fn sent_at(batch: Sending) -> usize
-    ensures { result ≡ batch.at }
-{
-    batch.at
-}
-
-fn sent_count(batch: Sending) -> usize
-    ensures { result ≡ batch.n }
-{
-    batch.n
+    fn command(&self, i: usize) -> Command {
+        let state = self.state;
+        let placed = self.placed;
+        immediate_command_at(state, placed, i as u32)
+    }
 }
 
 pub fn sent_answer(plan: ImmediatePlan, s: State) -> Answer
@@ -103,18 +87,9 @@ pub fn sent_answer(plan: ImmediatePlan, s: State) -> Answer
     Answer { outcome, state }
 }
 
-pub(crate) fn record_immediates(list: &mut [Record], plan: ImmediatePlan)
-    requires { (plan.batch.at + plan.batch.n ≤ length list.old) × ((i : ℕ) → i < plan.batch.n → SendAllowed plan.batch i) }
-    ensures { list.new ≡ filled (λ i. record_of (sent_at plan.batch i)) list.old plan.batch.at plan.batch.n }
-{
-    let batch = sent_batch(plan);
-    let at = sent_at(batch);
-    let n = sent_count(batch);
-    fill_sent(list, at, n, batch);
-}
-
 // The bytes of the plan, one pass over its descriptors: i bytes are written, the next one is byte k
-// of descriptor j. `words` are not read: the plan has them.
+// of descriptor j. `words` are not read: the plan has them. A `while`: a turn writes a byte or goes
+// on to the next descriptor.
 pub fn write_bytes(bytes: &mut [u8], words: &[u32], plan: ImmediatePlan)
     requires { BytesFit plan (length bytes.old) }
     ensures { bytes.new ≡ bytes_sent plan bytes.old }
@@ -172,20 +147,6 @@ fn ends_past(n: usize, used: usize, size: usize) -> bool
     (0 < n) & past_u32(used, size)
 }
 
-// The new words, or what they were.
-fn taken_words(
-    ok: bool,
-    new: [u32; MAX_IMMEDIATES],
-    old: [u32; MAX_IMMEDIATES],
-) -> [u32; MAX_IMMEDIATES]
-    ensures { result ≡ cond ok new old }
-{
-    if ok {
-        return new;
-    }
-    old
-}
-
 pub fn plan_set_immediates(
     words: &[u32],
     room: usize,
@@ -221,7 +182,7 @@ pub fn plan_set_immediates(
     let progress = v.progress;
     let new = state.words;
     let kept = old.words;
-    let words = taken_words(v.ok, new, kept);
+    let words = taken(v.ok, new, kept);
     let sent = v.ok | old.sent;
     ImmediatePlan {
         progress,

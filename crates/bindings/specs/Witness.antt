@@ -1,5 +1,5 @@
 -- Bind groups worked out, by computation. Assumes nothing.
-use Rattle.std.specs.Prelude.{ℕ, ◌≡◌, refl, true, false, [], ◌∷◌, pos, replicate}
+use Rattle.std.specs.Prelude.{ℕ, ◌≡◌, refl, true, false, [], ◌∷◌, pos, replicate, None, Some}
 use Rattle.tables.specs.Tabulate.{tabulate}
 use Rattle.mask.specs.Mask.{test_bit, bit_at, set_bit, mask_of, places_from}
 use Rattle.mask.specs.By.{mask_by}
@@ -11,7 +11,6 @@ use Rattle.records.specs.declared.binding.BufferBindingType.TheVariants.{Uniform
 use Rattle.records.specs.declared.binding.RawBinding.{RawBinding}
 use Rattle.records.specs.declared.binding.RawBinding.TheVariants as content
 use Rattle.records.specs.declared.command.Command.TheVariants.{BindBuffer, BindSampler, BindTexture}
-use Rattle.records.specs.declared.command.OptionU32.TheVariants.{None, Some}
 use Rattle.records.specs.declared.state.BindState.{BindState}
 use Rattle.bindings.specs.Group.{Entry, group_commands, group_state, textures_named, samplers_named, bind_group_commands}
 use Rattle.bindings.specs.Units.{sampler_commands}

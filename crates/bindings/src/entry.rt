@@ -12,60 +12,32 @@ pub(crate) fn dynamic(ty: BindingType) -> bool
 {
     match ty {
         BindingType::Buffer {
-            ty,
             has_dynamic_offset,
+            ..
         } => has_dynamic_offset,
-        BindingType::Texture => false,
-        BindingType::StorageTexture => false,
-        BindingType::Sampler => false,
+        _ => false,
     }
 }
 
 fn not_buffer(ty: BindingType) -> bool
     ensures { result ≡ not (is_buffer ty) }
 {
-    match ty {
-        BindingType::Buffer {
-            ty,
-            has_dynamic_offset,
-        } => false,
-        BindingType::Texture => true,
-        BindingType::StorageTexture => true,
-        BindingType::Sampler => true,
-    }
+    !matches!(ty, BindingType::Buffer { .. })
 }
 
 // Whether there is a command.
 pub(crate) fn records_one(raw: RawBinding) -> bool
     ensures { result ≡ records_one raw }
 {
-    match raw {
-        RawBinding::Buffer { raw, offset, size } => true,
-        RawBinding::Texture {
-            raw,
-            target,
-            aspects,
-            mip_levels,
-        } => true,
-        RawBinding::Image(binding) => true,
-        RawBinding::Sampler(k) => false,
-    }
+    !matches!(raw, RawBinding::Sampler(_))
 }
 
 pub(crate) fn takes_offset(entry: BindGroupLayoutEntry, raw: RawBinding) -> bool
     ensures { result ≡ takes_offset entry raw }
 {
-    let ty = entry.ty;
     match raw {
-        RawBinding::Buffer { raw, offset, size } => dynamic(ty),
-        RawBinding::Texture {
-            raw,
-            target,
-            aspects,
-            mip_levels,
-        } => false,
-        RawBinding::Image(binding) => false,
-        RawBinding::Sampler(k) => false,
+        RawBinding::Buffer { .. } => dynamic(entry.ty),
+        _ => false,
     }
 }
 
@@ -79,15 +51,9 @@ fn content_out_of_range(slot: u32, raw: RawBinding) -> bool
     ensures { result ≡ content_out_of_range slot raw }
 {
     match raw {
-        RawBinding::Buffer { raw, offset, size } => negative(offset),
-        RawBinding::Texture {
-            raw,
-            target,
-            aspects,
-            mip_levels,
-        } => 16 <= slot,
-        RawBinding::Image(binding) => false,
-        RawBinding::Sampler(k) => 16 <= slot,
+        RawBinding::Buffer { offset, .. } => negative(offset),
+        RawBinding::Image(_) => false,
+        RawBinding::Texture { .. } | RawBinding::Sampler(_) => 16 <= slot,
     }
 }
 
@@ -102,16 +68,8 @@ pub(crate) fn out_of_range(entry: BindGroupLayoutEntry, raw: RawBinding) -> bool
 pub(crate) fn wrong_kind(entry: BindGroupLayoutEntry, raw: RawBinding) -> bool
     ensures { result ≡ content_wrong_kind entry.ty raw }
 {
-    let ty = entry.ty;
     match raw {
-        RawBinding::Buffer { raw, offset, size } => not_buffer(ty),
-        RawBinding::Texture {
-            raw,
-            target,
-            aspects,
-            mip_levels,
-        } => false,
-        RawBinding::Image(binding) => false,
-        RawBinding::Sampler(k) => false,
+        RawBinding::Buffer { .. } => not_buffer(entry.ty),
+        _ => false,
     }
 }

@@ -26,13 +26,8 @@ fn buffer_target(ty: BindingType) -> u32
     ensures { result ≡ buffer_target ty }
 {
     match ty {
-        BindingType::Buffer {
-            ty,
-            has_dynamic_offset,
-        } => target_of(ty),
-        BindingType::Texture => 0,
-        BindingType::StorageTexture => 0,
-        BindingType::Sampler => 0,
+        BindingType::Buffer { ty, .. } => target_of(ty),
+        _ => 0,
     }
 }
 
@@ -64,30 +59,16 @@ fn past_i32(offset: i64) -> bool
 fn low(offset: i64) -> i32
     ensures { mag offset < 2 ^ 31 → result ≡ offset }
 {
-    if 2147483647 < offset {
-        return 0;
-    }
-    if offset < -2147483648 {
-        return 0;
-    }
-    offset as i32
+    i32::try_from(offset).unwrap_or(0)
 }
 
 // Condition 6, where the next dynamic offset is `next`.
 pub(crate) fn offset_over(entry: BindGroupLayoutEntry, raw: RawBinding, next: u32) -> bool
     ensures { result ≡ offset_over entry raw (next ∷ []) }
 {
-    let ty = entry.ty;
     match raw {
-        RawBinding::Buffer { raw, offset, size } => past_i32(offset_of(dynamic(ty), offset, next)),
-        RawBinding::Texture {
-            raw,
-            target,
-            aspects,
-            mip_levels,
-        } => false,
-        RawBinding::Image(binding) => false,
-        RawBinding::Sampler(k) => false,
+        RawBinding::Buffer { offset, .. } => past_i32(offset_of(dynamic(entry.ty), offset, next)),
+        _ => false,
     }
 }
 
@@ -133,6 +114,6 @@ pub(crate) fn entry_command(entry: BindGroupLayoutEntry, raw: RawBinding, next: 
             slot: entry.slot,
             binding,
         },
-        RawBinding::Sampler(k) => Command::PopDebugGroup,
+        RawBinding::Sampler(_) => Command::PopDebugGroup,
     }
 }

@@ -40,15 +40,9 @@ pub(crate) fn entry_state(entry: BindGroupLayoutEntry, raw: RawBinding, b: BindS
     ensures { result ≡ entry_state entry raw b }
 {
     match raw {
-        RawBinding::Buffer { raw, offset, size } => b,
-        RawBinding::Texture {
-            raw,
-            target,
-            aspects,
-            mip_levels,
-        } => texture_state(b, entry.slot, target),
-        RawBinding::Image(binding) => b,
+        RawBinding::Texture { target, .. } => texture_state(b, entry.slot, target),
         RawBinding::Sampler(k) => sampler_state(b, entry.slot, k),
+        _ => b,
     }
 }
 
@@ -57,15 +51,8 @@ pub(crate) fn textures_after(entry: BindGroupLayoutEntry, raw: RawBinding, m: u3
     ensures { result ≡ named_after is_texture entry raw m }
 {
     match raw {
-        RawBinding::Buffer { raw, offset, size } => m,
-        RawBinding::Texture {
-            raw,
-            target,
-            aspects,
-            mip_levels,
-        } => mask::set_if(m, entry.slot, entry.slot < 16),
-        RawBinding::Image(binding) => m,
-        RawBinding::Sampler(k) => m,
+        RawBinding::Texture { .. } => mask::set_if(m, entry.slot, entry.slot < 16),
+        _ => m,
     }
 }
 
@@ -74,14 +61,7 @@ pub(crate) fn samplers_after(entry: BindGroupLayoutEntry, raw: RawBinding, m: u3
     ensures { result ≡ named_after is_sampler entry raw m }
 {
     match raw {
-        RawBinding::Buffer { raw, offset, size } => m,
-        RawBinding::Texture {
-            raw,
-            target,
-            aspects,
-            mip_levels,
-        } => m,
-        RawBinding::Image(binding) => m,
-        RawBinding::Sampler(k) => mask::set_if(m, entry.slot, entry.slot < 16),
+        RawBinding::Sampler(_) => mask::set_if(m, entry.slot, entry.slot < 16),
+        _ => m,
     }
 }

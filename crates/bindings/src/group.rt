@@ -1,28 +1,27 @@
 // The group that `set_bind_group` names, how many of its entries are reached, and the dynamic offsets
 // one by one. The contracts cite specs/Group.antt.
 ghost use Rattle.std.specs.Prelude.{◌≤◌, min, cond, ◌||◌, ◌≡◌, ltb, take, drop};
+ghost use Rattle.std.specs.List.{list_any};
 ghost use Rattle.mask.specs.Mask.{digit_of};
 ghost use Rattle.records.specs.Check.{some?};
 ghost use Rattle.bindings.specs.Group.{group_at, head_or, long_group};
 
 use records::binding::{BindGroup, GroupShape, PipelineLayout};
-use records::check::within;
+use records::check::counted;
 use records::limits::{MAX_BIND_GROUPS, MAX_BINDINGS};
 
 // The group that the call names; an absent one past the layout.
 pub fn group_at(l: PipelineLayout, i: u32) -> GroupShape
     ensures { result ≡ group_at l i }
 {
-    let at = i as usize;
-    if at < within(l.group_count, MAX_BIND_GROUPS) {
-        let groups = l.groups;
-        groups[at]
-    } else {
-        GroupShape {
+    let groups = l.groups;
+    counted(&groups, l.group_count)
+        .get(i as usize)
+        .copied()
+        .unwrap_or(GroupShape {
             present: false,
             entry_count: 0,
-        }
-    }
+        })
 }
 
 // Condition 2.
@@ -33,17 +32,12 @@ pub fn group_too_many(l: PipelineLayout, g: BindGroup) -> bool
 }
 
 fn long_group(l: PipelineLayout) -> bool
-    ensures { result ≡ some? long_group (take l.group_count l.groups) }
+    ensures { result ≡ list_any long_group (take l.group_count l.groups) }
 {
-    let mut left = within(l.group_count, MAX_BIND_GROUPS);
-    let mut long = false;
     let groups = l.groups;
-    while 0 < left {
-        left = left - 1;
-        let shape = groups[left];
-        long = (shape.present & (MAX_BINDINGS < shape.entry_count)) | long;
-    }
-    long
+    counted(&groups, l.group_count)
+        .iter()
+        .any(|shape| shape.present & (MAX_BINDINGS < shape.entry_count))
 }
 
 // How many entries are gone through.
@@ -51,10 +45,10 @@ pub(crate) fn reached(shape: GroupShape, content_count: usize) -> usize
     ensures { result ≡ min (cond shape.present (min shape.entry_count 64) 0) (min content_count 64) }
 {
     if shape.present {
-        within(
-            within(shape.entry_count, MAX_BINDINGS),
-            within(content_count, MAX_BINDINGS),
-        )
+        shape
+            .entry_count
+            .min(MAX_BINDINGS)
+            .min(content_count.min(MAX_BINDINGS))
     } else {
         0
     }
@@ -64,16 +58,15 @@ pub(crate) fn reached(shape: GroupShape, content_count: usize) -> usize
 pub(crate) fn offset_at(offsets: &[u32], count: usize, used: u32) -> u32
     ensures { result ≡ head_or 0 (drop used (take count offsets.now)) }
 {
-    let at = used as usize;
-    if at < within(count, offsets.len()) {
-        return offsets[at];
-    }
-    0
+    counted(offsets, count)
+        .get(used as usize)
+        .copied()
+        .unwrap_or(0)
 }
 
 // 1 where it is so, else 0.
 pub fn one_if(b: bool) -> u32
     ensures { (result ≡ digit_of b) × (result ≤ 1) }
 {
-    if b { 1 } else { 0 }
+    b as u32
 }

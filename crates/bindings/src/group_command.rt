@@ -13,6 +13,7 @@ use records::command::Command;
 use records::state::BindState;
 
 // Command number k of the entries.
+// The run with its count, as the call is lent them: the clause is over both.
 pub(crate) fn group_command_at(
     offsets: &[u32],
     count: usize,
@@ -28,10 +29,9 @@ pub(crate) fn group_command_at(
     let n = reached(shape, g.content_count);
     let mut left = k;
     let mut used: u32 = 0;
-    let mut j: usize = 0;
     let entries = e.entries;
     let contents = g.contents;
-    while j < n {
+    for j in 0..n {
         let entry = entries[j];
         let content = contents[j];
         let raw = content.binding;
@@ -42,7 +42,6 @@ pub(crate) fn group_command_at(
         }
         left = left - one;
         used = used + one_if(takes_offset(entry, raw));
-        j = j + 1;
     }
     Command::PopDebugGroup
 }

@@ -6,7 +6,6 @@ ghost use Rattle.slots.specs.Place.{Stands};
 ghost use Rattle.bindings.specs.Immediates.{descriptors_of, immediate_commands, immediate_bytes};
 ghost use Rattle.bindings.specs.Placed.{places_of};
 
-use records::check::within;
 use records::command::Command;
 use records::limits::MAX_IMMEDIATES_COMMANDS;
 use records::state::ImmediateState;
@@ -18,12 +17,6 @@ pub struct Placed {
     pub total: u32,
 }
 
-fn at_most(x: u32, limit: u32) -> u32
-    ensures { result ≡ min x limit }
-{
-    if x < limit { x } else { limit }
-}
-
 // The descriptors' bytes one after the other, the first at `at`.
 pub fn place_descriptors(i: ImmediateState, at: u32) -> Placed
     ensures { (result.total ≤ 192 * 256)
@@ -31,19 +24,17 @@ pub fn place_descriptors(i: ImmediateState, at: u32) -> Placed
         → (take (length (descriptors_of i)) result.at ≡ places_of (descriptors_of i) at)
         × ((ws : List ℕ) → length ws ≡ 64 → result.total ≡ length (immediate_bytes ws (descriptors_of i)))) }
 {
-    let first = at_most(at, 65536);
-    let n = within(i.count, MAX_IMMEDIATES_COMMANDS);
+    let first = at.min(65536);
+    let n = i.count.min(MAX_IMMEDIATES_COMMANDS);
     let mut p = Placed {
         at: [0; MAX_IMMEDIATES_COMMANDS],
         total: 0,
     };
-    let mut j: usize = 0;
     let descs = i.descs;
-    while j < n {
+    for j in 0..n {
         let d = descs[j];
         p.at[j] = first + p.total;
-        p.total = p.total + at_most(d.size_bytes, 256);
-        j = j + 1;
+        p.total = p.total + d.size_bytes.min(256);
     }
     p
 }
@@ -53,7 +44,7 @@ pub fn immediate_command_at(i: ImmediateState, placed: Placed, k: u32) -> Comman
     ensures { (at : ℕ) → take (length (descriptors_of i)) placed.at ≡ places_of (descriptors_of i) at → Stands result k (immediate_commands (descriptors_of i) at) }
 {
     let j = k as usize;
-    if j < within(i.count, MAX_IMMEDIATES_COMMANDS) {
+    if j < i.count.min(MAX_IMMEDIATES_COMMANDS) {
         let descs = i.descs;
         let places = placed.at;
         let d = descs[j];

@@ -3,9 +3,8 @@
 ghost use Rattle.std.specs.Prelude.{◌≡◌, false, cond, ◌≤◌, get_or, take};
 ghost use Rattle.bindings.specs.Immediates.{descriptors_of, shares_word, sends as sends_of, filter as filter_of, immediates_out_of_range, immediates_state};
 
-use records::check::within;
+use records::check::counted;
 use records::command::ImmediateDesc;
-use records::limits::MAX_IMMEDIATES_COMMANDS;
 use records::state::ImmediateState;
 
 // Condition 3 of a call that writes `count` words from the byte `offset` on.
@@ -13,7 +12,7 @@ pub fn out_of_range(offset: u32, count: usize) -> bool
     ensures { result ≡ immediates_out_of_range offset count }
 {
     let first = (offset / 4) as usize;
-    (offset % 4 != 0) | (64 < first + within(count, 65))
+    (offset % 4 != 0) | (64 < first + count.min(65))
 }
 
 // The state after a call that writes `count` words from the byte `offset` on.
@@ -31,13 +30,8 @@ pub fn immediates_after(
     }
     next.sent = true;
     let first = (offset / 4) as usize;
-    let n = within(count, words.len());
-    let mut j: usize = 0;
-    while j < n {
-        let at = first + j;
-        next.words[at] = words[j];
-        j = j + 1;
-    }
+    let n = count.min(words.len());
+    next.words[first..first + n].copy_from_slice(&words[..n]);
     next
 }
 
@@ -53,7 +47,7 @@ fn shares(start: u32, end: u32, d: ImmediateDesc) -> bool
 fn one_if(t: bool) -> usize
     ensures { (result ≡ cond t 1 0) × (result ≤ 1) }
 {
-    if t { 1 } else { 0 }
+    t as usize
 }
 
 // The state with only the descriptors that a call sends which writes the words from `start` to
@@ -61,18 +55,15 @@ fn one_if(t: bool) -> usize
 pub fn picked(i: ImmediateState, start: u32, end: u32) -> ImmediateState
     ensures { (descriptors_of result ≡ filter_of (sends_of i.sent start end) (descriptors_of i)) × (result.count ≤ 192) × (result.words ≡ i.words) × (result.sent ≡ i.sent) }
 {
-    let n = within(i.count, MAX_IMMEDIATES_COMMANDS);
     let sent = i.sent;
-    let descs = i.descs;
     let mut kept = i.descs;
+    // `k` by hand: the kept ones stay in the state's array (no heap).
     let mut k: usize = 0;
-    let mut j: usize = 0;
-    while j < n {
-        let d = descs[j];
-        kept[k] = d;
-        let t = shares(start, end, d) | !sent;
+    let descs = i.descs;
+    for d in counted(&descs, i.count) {
+        kept[k] = *d;
+        let t = shares(start, end, *d) | !sent;
         k = k + one_if(t);
-        j = j + 1;
     }
     let mut r = i;
     r.descs = kept;

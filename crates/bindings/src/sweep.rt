@@ -45,6 +45,7 @@ fn sweep_entry(entry: BindGroupLayoutEntry, raw: RawBinding, next: u32, s: Sweep
     }
 }
 
+// The run with its count, as the call is lent them: the clause is over both.
 pub fn sweep_entries(
     offsets: &[u32],
     count: usize,
@@ -75,16 +76,14 @@ pub fn sweep_entries(
         kind: false,
         over: false,
     };
-    let mut j: usize = 0;
     let entries = e.entries;
     let contents = g.contents;
-    while j < n {
+    for j in 0..n {
         let entry = entries[j];
         let content = contents[j];
         let raw = content.binding;
         let next = offset_at(offsets, count, sweep.used);
         sweep = sweep_entry(entry, raw, next, sweep);
-        j = j + 1;
     }
     sweep
 }

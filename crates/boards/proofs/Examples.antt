@@ -12,7 +12,7 @@ use Rattle.records.specs.declared.command.AttributeDesc.{AttributeDesc}
 use Rattle.records.specs.declared.command.Command.{Command}
 use Rattle.records.specs.declared.command.Command.TheVariants.{Draw, ResetFramebuffer, SetVertexAttribute, UnsetVertexAttribute, SetVertexBuffer, SetProgram, SetBlendConstant}
 use Rattle.records.specs.declared.command.Command.TheVariants.{SetDrawColorBuffers, PushDebugGroup, SetImmediates, CopyQueryResults, BindBuffer, PopDebugGroup}
-use Rattle.records.specs.declared.command.OptionU32.TheVariants.{None, Some}
+use Rattle.std.specs.Prelude.{None, Some}
 use Rattle.records.specs.declared.command.VertexAttribKind.TheVariants as kind
 use Rattle.records.specs.declared.command.VertexBufferDesc.{VertexBufferDesc}
 use Rattle.records.specs.declared.command.VertexStepMode.TheVariants.{Vertex}

@@ -3,6 +3,7 @@ use Prim.Native.Nat.{ℕ, zero, suc, ◌+◌, ◌-◌, ◌≤◌, ◌<◌}
 use mathlib.Core.Path.{◌≡◌, refl, sym, ap, ap₂, ◌∙◌, subst}
 use mathlib.Core.Bool.{Bool, true, false, cond, not, ◌&&◌}
 use mathlib.Core.List.{List, [], ◌∷◌}
+use Rattle.std.specs.Prelude.{Option, None, Some, is_some}
 use native.Mathlib.Nat.{not-suc-le-zero, le_of_suc-le-suc, min-eq_left}
 use native.Mathlib.Omega.{arith}
 use lib.Dec.{eqb, ltb}
@@ -30,7 +31,7 @@ use Rattle.boards.specs.declared.settings.Settings.{Settings}
 use Rattle.boards.specs.Alike.{alike}
 use Rattle.boards.specs.Compared.{first_off, refused_or, draws_of, compared}
 use Rattle.boards.specs.Settings.{placed, gl_of}
-use Rattle.boards.specs.Side.{no_record, is_refusal, turns_of, first_side, start_of, is_draw, has_more, one_more, with_a, with_b, told, moved, turn_of}
+use Rattle.boards.specs.Side.{no_record, turns_of, first_side, start_of, is_draw, has_more, one_more, with_a, with_b, told, moved, turn_of}
 use Rattle.boards.proofs.Sees.{Sees, fresh-sees, placed-sees, sees-alike}
 use Rattle.boards.proofs.Drawn.{at-draw, at_other, counts}
 
@@ -49,8 +50,8 @@ module _ (same : Float → Float → Bool) (l k : List Record) where
   abbrev turn : Both → Both
   turn = reading (λ m. m.a.at) (λ m. m.b.at) (turn_of same) l k no_record
 
-  stays : (n : ℕ) (m : Both) → m.known ≡ true → turns turn n m ≡ m
-  stays n m e = turns-still turn n m (ap (λ (t : Bool). cond t m (moved same m (get_or l m.a.at no_record) (get_or k m.b.at no_record))) e)
+  stays : (n : ℕ) (m : Both) (r : Compared) → m.answer ≡ Some r → turns turn n m ≡ m
+  stays n m r e = turns-still turn n m (ap (λ (t : Option Compared). cond (is_some t) m (moved same m (get_or l m.a.at no_record) (get_or k m.b.at no_record))) e)
 
 -- ---- the used records xs of a lent run l that breaks no limit
 record Held (l xs : List Record) : Type 0 where
@@ -63,13 +64,13 @@ module _ (same : Float → Float → Bool) (l xs k ys : List Record) (p : Held l
   shots g zs i = shots_from g (commands_of (drop i zs))
 
   -- the answer, and how many turns are left
-  abbrev value : Bool → Both → Gl → Gl → Compared
-  value true m g h = m.answer
-  value false m g h = first_off same m.draws (shots g xs m.a.at) (shots h ys m.b.at)
+  abbrev value : Option Compared → Both → Gl → Gl → Compared
+  value (Some r) m g h = r
+  value None m g h = first_off same m.draws (shots g xs m.a.at) (shots h ys m.b.at)
 
-  abbrev left : Bool → Both → ℕ
-  left true m = 0
-  left false m = suc ((length xs - m.a.at) + (length ys - m.b.at))
+  abbrev left : Option Compared → Both → ℕ
+  left (Some r) m = 0
+  left None m = suc ((length xs - m.a.at) + (length ys - m.b.at))
 
   -- the machines g and h have the settings
   record Stands (m : Both) (g h : Gl) : Type 0 where
@@ -84,13 +85,13 @@ module _ (same : Float → Float → Bool) (l xs k ys : List Record) (p : Held l
     g' : Gl
     h' : Gl
     stands : Stands n g' h'
-    kept : value n.known n g' h' ≡ value false m g h
-    less : left n.known n < left false m
+    kept : value n.answer n g' h' ≡ value None m g h
+    less : left n.answer n < left None m
 
   abbrev next : Side → Record → Side
   next s x = record { count = s.count; at = s.at + 1; settings = placed s.settings x.command }
 
-  module _ (m : Both) (g h : Gl) (w : Stands m g h) (f : m.known ≡ false) where
+  module _ (m : Both) (g h : Gl) (w : Stands m g h) (f : m.answer ≡ None) where
     abbrev x : Record
     x = get_or l m.a.at no_record
 
@@ -123,13 +124,13 @@ module _ (same : Float → Float → Bool) (l xs k ys : List Record) (p : Held l
     shots-b : has_more m.b ≡ true → shots h ys m.b.at ≡ shots_from h (y.command ∷ commands_of (drop (m.b.at + 1) ys))
     shots-b e = ap (λ zs. shots_from h (commands_of zs)) (q.here m.b.at (more-b e))
 
-    unknown : (n : Both) (g' h' : Gl) → n.known ≡ m.known → value n.known n g' h' ≡ value false n g' h'
-    unknown n g' h' e = ap (λ (t : Bool). value t n g' h') (e ∙ f)
+    unknown : (n : Both) (g' h' : Gl) → n.answer ≡ m.answer → value n.answer n g' h' ≡ value None n g' h'
+    unknown n g' h' e = ap (λ (t : Option Compared). value t n g' h') (e ∙ f)
 
-    fewer : (n : Both) → n.known ≡ m.known → left false n < left false m → left n.known n < left false m
-    fewer n e d = subst (λ (t : Bool). left t n < left false m) (sym (e ∙ f)) d
+    fewer : (n : Both) → n.answer ≡ m.answer → left None n < left None m → left n.answer n < left None m
+    fewer n e d = subst (λ (t : Option Compared). left t n < left None m) (sym (e ∙ f)) d
 
-    tells : (r : Compared) → r ≡ value false m g h → Went m g h (told r m)
+    tells : (r : Compared) → r ≡ value None m g h → Went m g h (told r m)
     tells r e =
         record {
           g' = g;
@@ -176,7 +177,7 @@ module _ (same : Float → Float → Bool) (l xs k ys : List Record) (p : Held l
 
     -- at two draws
     abbrev both : Both
-    both = record { a = next m.a x; b = next m.b y; draws = one_more m.draws; known = m.known; answer = m.answer }
+    both = record { a = next m.a x; b = next m.b y; draws = one_more m.draws; answer = m.answer }
 
     one_more_lem : (n : ℕ) → n < 4096 → one_more n ≡ suc n
     one_more_lem n e = ap (λ (t : Bool). cond t (n + 1) n) (lt-ltb n 4096 e) ∙ omega arith
@@ -198,7 +199,7 @@ module _ (same : Float → Float → Bool) (l xs k ys : List Record) (p : Held l
         grown : one_more m.draws ≡ suc m.draws
         grown = one_more_lem m.draws (omega (arith, low, w.few, p.short))
 
-        now : value false m g h ≡ cond (alike same (gl_of m.a.settings) (gl_of m.b.settings)) after (Differs m.draws)
+        now : value None m g h ≡ cond (alike same (gl_of m.a.settings) (gl_of m.b.settings)) after (Differs m.draws)
         now =
             let r = at-draw g x.command (commands_of (drop (m.a.at + 1) xs)) d in
             let s = at-draw h y.command (commands_of (drop (m.b.at + 1) ys)) d' in
@@ -230,7 +231,7 @@ module _ (same : Float → Float → Bool) (l xs k ys : List Record) (p : Held l
     unfolding first_off
     went = go (has_more m.a) refl (is_draw x) refl (has_more m.b) refl (is_draw y) refl
       where
-        ends-a : has_more m.a ≡ false → Equal ≡ value false m g h
+        ends-a : has_more m.a ≡ false → Equal ≡ value None m g h
         ends-a e = sym (ap (λ (z : List Shot). first_off same m.draws z (shots h ys m.b.at)) (done-a e))
 
         go : (s : Bool) → has_more m.a ≡ s → (d : Bool) → is_draw x ≡ d → (t : Bool) → has_more m.b ≡ t → (d' : Bool) → is_draw y ≡ d'
@@ -239,7 +240,7 @@ module _ (same : Float → Float → Bool) (l xs k ys : List Record) (p : Held l
             (cond (t && not d') (with_b (cond t (next m.b y) m.b) m)
             (cond (s && t)
             (cond (alike same (gl_of m.a.settings) (gl_of m.b.settings))
-            (record { a = cond s (next m.a x) m.a; b = cond t (next m.b y) m.b; draws = one_more m.draws; known = m.known; answer = m.answer })
+            (record { a = cond s (next m.a x) m.a; b = cond t (next m.b y) m.b; draws = one_more m.draws; answer = m.answer })
             (told (Differs m.draws) m))
             (told Equal m))))
         go true e false d t e' d' f' = goes-a e d
@@ -254,29 +255,29 @@ module _ (same : Float → Float → Bool) (l xs k ys : List Record) (p : Held l
 
   -- enough turns find it
   abbrev Found : ℕ → Type 0
-  Found n = (m : Both) (g h : Gl) → Stands m g h → left m.known m ≤ n → (turns (turn same l k) n m).answer ≡ value m.known m g h
+  Found n = (m : Both) (g h : Gl) → Stands m g h → left m.answer m ≤ n → (turns (turn same l k) n m).answer ≡ Some (value m.answer m g h)
 
   finds-from : (n : ℕ) → Found n
   unfolding turns
-  finds-from zero m g h w d = go m.known refl d
+  finds-from zero m g h w d = go m.answer refl d
     where
-      go : (t : Bool) → m.known ≡ t → left t m ≤ 0 → m.answer ≡ value t m g h
-      go true e d = refl
-      go false e d = absurd (not-suc-le-zero d)
-  finds-from (suc n) m g h w d = go m.known refl d (finds-from n)
+      go : (t : Option Compared) → m.answer ≡ t → left t m ≤ 0 → m.answer ≡ Some (value t m g h)
+      go (Some r) e d = e
+      go None e d = absurd (not-suc-le-zero d)
+  finds-from (suc n) m g h w d = go m.answer refl d (finds-from n)
     where
       fewer : (i j n : ℕ) → i < j → j ≤ suc n → i ≤ n
       fewer i j n a b = omega arith
 
-      go : (t : Bool) → m.known ≡ t → left t m ≤ suc n → Found n → (turns (turn same l k) (suc n) m).answer ≡ value t m g h
-      go true e d rest = ap (λ (r : Both). r.answer) (stays same l k (suc n) m e)
-      go false e d rest =
+      go : (t : Option Compared) → m.answer ≡ t → left t m ≤ suc n → Found n → (turns (turn same l k) (suc n) m).answer ≡ Some (value t m g h)
+      go (Some a) e d rest = ap (λ (r : Both). r.answer) (stays same l k (suc n) m a e) ∙ e
+      go None e d rest =
           let by = went m g h w e in
           let r = moved same m (get_or l m.a.at no_record) (get_or k m.b.at no_record) in
           ap (λ (z : Both). z.answer) (turns-first (turn same l k) n m)
-          ∙ ap (λ (t : Bool). (turns (turn same l k) n (cond t m r)).answer) e
-          ∙ rest r by.g' by.h' by.stands (fewer (left r.known r) (left false m) n by.less d)
-          ∙ by.kept
+          ∙ ap (λ (t : Option Compared). (turns (turn same l k) n (cond (is_some t) m r)).answer) e
+          ∙ rest r by.g' by.h' by.stands (fewer (left r.answer r) (left None m) n by.less d)
+          ∙ ap (λ (c : Compared). Some c) by.kept
 
 -- ---- before the first turn
 each_at : (P : Command → Type 0) (zs : List Record) (i : ℕ) → i < length zs → Each P (commands_of zs) → P (get_or zs i no_record).command
@@ -321,10 +322,10 @@ module _ (l : List Record) (u : Used) (range : (broken_by (handed l u)).range �
 
 pub finds : (same : Float → Float → Bool) (l : List Record) (u : Used) (k : List Record) (v : Used)
     → (turns (reading (λ m. m.a.at) (λ m. m.b.at) (turn_of same) l k no_record) (turns_of (survey_of l u) (survey_of k v)) (start_of (survey_of l u) (survey_of k v))).answer
-    ≡ compared same (handed l u) (handed k v)
+    ≡ Some (compared same (handed l u) (handed k v))
 finds same l u k v =
     go broken.many broken.range refl broken.room refl (eqb (draw_count (handed l u).commands) (draw_count (handed k v).commands))
-    ∙ ap₂ (λ (i j : ℕ). refused_or broken (cond (eqb i j) first DrawCounts)) (sym (counts fresh_gl (handed l u).commands)) (sym (counts fresh_gl (handed k v).commands))
+    ∙ ap₂ (λ (i j : ℕ). Some (refused_or broken (cond (eqb i j) first DrawCounts))) (sym (counts fresh_gl (handed l u).commands)) (sym (counts fresh_gl (handed k v).commands))
   where
     broken : Breaks
     broken = either_breaks (broken_by (handed l u)) (broken_by (handed k v))
@@ -332,16 +333,16 @@ finds same l u k v =
     first : Compared
     first = first_off same 0 (draws_of (handed l u)) (draws_of (handed k v))
 
-    start : Compared → Both
-    start r = record { a = first_side (survey_of l u); b = first_side (survey_of k v); draws = 0; known = is_refusal r; answer = r }
+    start : Option Compared → Both
+    start r = record { a = first_side (survey_of l u); b = first_side (survey_of k v); draws = 0; answer = r }
 
-    answer : Compared → Compared
+    answer : Option Compared → Option Compared
     answer r = (turns (turn same l k) (turns_of (survey_of l u) (survey_of k v)) (start r)).answer
 
-    refused : (r : Compared) → is_refusal r ≡ true → answer r ≡ r
-    refused r e = ap (λ (m : Both). m.answer) (stays same l k (turns_of (survey_of l u) (survey_of k v)) (start r) e)
+    refused : (r : Compared) → answer (Some r) ≡ Some r
+    refused r = ap (λ (m : Both). m.answer) (stays same l k (turns_of (survey_of l u) (survey_of k v)) (start (Some r)) r refl)
 
-    plays : broken.range ≡ false → broken.room ≡ false → answer Equal ≡ first
+    plays : broken.range ≡ false → broken.room ≡ false → answer None ≡ Some first
     plays e f =
         let range = (broken_by (handed l u)).range in
         let room = (broken_by (handed l u)).room in
@@ -349,14 +350,15 @@ finds same l u k v =
         let e₂ = or_right range _ e in
         let f₁ = or_left room _ f in
         let f₂ = or_right room _ f in
-        finds-from same l (take u.commands l) k (take v.commands k) (held l u e₁ f₁) (held k v e₂ f₂) (turns_of (survey_of l u) (survey_of k v)) (start Equal) fresh_gl fresh_gl
+        finds-from same l (take u.commands l) k (take v.commands k) (held l u e₁ f₁) (held k v e₂ f₂) (turns_of (survey_of l u) (survey_of k v)) (start None) fresh_gl fresh_gl
         (record { sees_a = fresh-sees; sees_b = fresh-sees; count_a = sym (long l u e₁ f₁); count_b = sym (long k v e₂ f₂); few = omega arith })
         (omega (arith, long l u e₁ f₁, long k v e₂ f₂, min-eq_left (counted l u e₁ f₁), min-eq_left (counted k v e₂ f₂)))
 
     go : (a b : Bool) → broken.range ≡ b → (c : Bool) → broken.room ≡ c → (d : Bool)
-        → answer (cond a TooMany (cond b OutOfRange (cond c NoRoom (cond d Equal DrawCounts)))) ≡ cond a TooMany (cond b OutOfRange (cond c NoRoom (cond d first DrawCounts)))
-    go true b e c f d = refused TooMany refl
-    go false true e c f d = refused OutOfRange refl
-    go false false e true f d = refused NoRoom refl
-    go false false e false f false = refused DrawCounts refl
+        → answer (cond a (Some TooMany) (cond b (Some OutOfRange) (cond c (Some NoRoom) (cond d None (Some DrawCounts)))))
+        ≡ Some (cond a TooMany (cond b OutOfRange (cond c NoRoom (cond d first DrawCounts))))
+    go true b e c f d = refused TooMany
+    go false true e c f d = refused OutOfRange
+    go false false e true f d = refused NoRoom
+    go false false e false f false = refused DrawCounts
     go false false e false f true = plays e f

@@ -3,7 +3,7 @@ use Prim.Native.Nat.{ℕ, zero, suc, ◌<◌}
 use mathlib.Core.Path.{◌≡◌, refl, sym, ap, ◌∙◌, subst}
 use mathlib.Core.Bool.{Bool, true, false, cond, ◌&&◌}
 use mathlib.Core.List.{List}
-use mathlib.Core.Option.{Option, some}
+use Rattle.std.specs.Prelude.{Option, None, Some}
 use lib.Dec.{eqb, leb, ltb}
 use lib.Ieee.{Float}
 use lib.ListN.{length, get_or, set, replicate, length-set, length-replicate}
@@ -17,7 +17,6 @@ use Rattle.records.specs.declared.command.Command.TheVariants.{SetStencilOps, Se
 use Rattle.records.specs.declared.command.Command.TheVariants.{UnsetVertexAttribute, SetVertexBuffer, SetProgram, SetPrimitive, SetBlendConstant, SetColorTarget, BindBuffer}
 use Rattle.records.specs.declared.command.Command.TheVariants.{BindSampler, BindTexture, BindImage, PushDebugGroup, PopDebugGroup, SetImmediates, SetClipDistances}
 use Rattle.records.specs.declared.command.ColorF32.{ColorF32}
-use Rattle.records.specs.declared.command.OptionU32.TheVariants.{None, Some}
 use Rattle.machine.specs.Machine as gl
 use Rattle.machine.specs.Machine.{Vertices, Gl, fresh_gl, put_attribute, put_buffer}
 use Rattle.machine.specs.Found.{fetch_at}
@@ -25,13 +24,11 @@ use Rattle.machine.proofs.Lists.{or_left, set_at}
 use Rattle.lists.specs.declared.limits.Used.{Used}
 use Rattle.lists.specs.Limits.{breaks}
 use Rattle.lists.specs.Shots.{settings_after}
-use Rattle.boards.specs.declared.settings.Location.{Location}
-use Rattle.boards.specs.declared.settings.OptionAttribute.TheVariants as attribute
-use Rattle.boards.specs.declared.settings.OptionVertexBuffer.TheVariants as buffer
+use Rattle.boards.specs.declared.settings.Attribute.{Attribute}
 use Rattle.boards.specs.declared.settings.Settings.{Settings}
-use Rattle.boards.specs.declared.settings.Slot.{Slot}
+use Rattle.boards.specs.declared.settings.VertexBuffer.{VertexBuffer}
 use Rattle.boards.specs.Alike.{location_alike, same_program, same_color, all_below, alike}
-use Rattle.boards.specs.Settings.{no_attribute, no_buffer, fresh_settings, place_attribute, place_buffer, placed, attribute_of, buffer_of, program_of, vertices_of, gl_of}
+use Rattle.boards.specs.Settings.{fresh_settings, place_attribute, place_buffer, placed, attribute_of, buffer_of, program_of, vertices_of, gl_of}
 
 -- the settings of which the comparison asks, and sixteen places
 pub record Shows (s : Settings) (v : Vertices) (p : Option ℕ) (b : ColorF32) : Type 0 where
@@ -53,11 +50,11 @@ same-everywhere (suc n) (suc i) a = same-everywhere n i a
 pub fresh-sees : Sees fresh_settings fresh_gl
 fresh-sees =
     record {
-      vertices = λ j. record { attribute = λ l. attribute_of (same-everywhere 16 l no_attribute j).attribute; buffer = λ i. buffer_of (same-everywhere 16 i no_buffer j).buffer };
+      vertices = λ j. record { attribute = λ l. attribute_of (same-everywhere 16 l None j); buffer = λ i. buffer_of (same-everywhere 16 i None j) };
       program = refl;
       blend = refl;
-      locations = length-replicate 16 no_attribute;
-      slots = length-replicate 16 no_buffer;
+      locations = length-replicate {A = Option Attribute} 16 None;
+      slots = length-replicate {A = Option VertexBuffer} 16 None;
     }
 
 -- ---- a command
@@ -71,8 +68,8 @@ put l i k x d e h =
     let low = leb-false 16 i h in
     ap (λ (t : Bool). get_or (cond t (set l i x) l) k d) (lt-ltb i 16 low) ∙ set_at l i k x d (subst (λ (n : ℕ). i < n) (sym e) low)
 
-places-attribute : (s : Settings) (v : Vertices) (p : Option ℕ) (b : ColorF32) (l : ℕ) (x : Location) → leb 16 l ≡ false → Shows s v p b
-    → Shows (place_attribute s l x) (put_attribute l (attribute_of x.attribute) v) p b
+places-attribute : (s : Settings) (v : Vertices) (p : Option ℕ) (b : ColorF32) (l : ℕ) (x : Option Attribute) → leb 16 l ≡ false → Shows s v p b
+    → Shows (place_attribute s l x) (put_attribute l (attribute_of x) v) p b
 places-attribute s v p b l x h e =
     record {
       vertices = λ j. record { attribute = λ k. at k j; buffer = (e.vertices j).buffer };
@@ -82,14 +79,14 @@ places-attribute s v p b l x h e =
       slots = e.slots;
     }
   where
-    either : (k : ℕ) (t : Bool) → attribute_of (cond t x (get_or s.locations k no_attribute)).attribute ≡ cond t (attribute_of x.attribute) (v.attribute k)
+    either : (k : ℕ) (t : Bool) → attribute_of (cond t x (get_or s.locations k None)) ≡ cond t (attribute_of x) (v.attribute k)
     either k true = refl
     either k false = ap (λ (w : Vertices). w.attribute k) e.vertices
 
-    at : (k : ℕ) → (vertices_of (place_attribute s l x)).attribute k ≡ cond (eqb k l) (attribute_of x.attribute) (v.attribute k)
-    at k = ap (λ (y : Location). attribute_of y.attribute) (put s.locations l k x no_attribute e.locations h) ∙ either k (eqb k l)
+    at : (k : ℕ) → (vertices_of (place_attribute s l x)).attribute k ≡ cond (eqb k l) (attribute_of x) (v.attribute k)
+    at k = ap attribute_of (put s.locations l k x None e.locations h) ∙ either k (eqb k l)
 
-places-buffer : (s : Settings) (v : Vertices) (p : Option ℕ) (b : ColorF32) (i : ℕ) (x : Slot) (y : gl.VertexBuffer) → buffer_of x.buffer ≡ some y → leb 16 i ≡ false → Shows s v p b
+places-buffer : (s : Settings) (v : Vertices) (p : Option ℕ) (b : ColorF32) (i : ℕ) (x : Option VertexBuffer) (y : gl.VertexBuffer) → buffer_of x ≡ Some y → leb 16 i ≡ false → Shows s v p b
     → Shows (place_buffer s i x) (put_buffer i y v) p b
 places-buffer s v p b i x y f h e =
     record {
@@ -100,12 +97,12 @@ places-buffer s v p b i x y f h e =
       slots = still (ltb i 16) s.slots i x e.slots;
     }
   where
-    either : (k : ℕ) (t : Bool) → buffer_of (cond t x (get_or s.slots k no_buffer)).buffer ≡ cond t (some y) (v.buffer k)
+    either : (k : ℕ) (t : Bool) → buffer_of (cond t x (get_or s.slots k None)) ≡ cond t (Some y) (v.buffer k)
     either k true = f
     either k false = ap (λ (w : Vertices). w.buffer k) e.vertices
 
-    at : (k : ℕ) → (vertices_of (place_buffer s i x)).buffer k ≡ cond (eqb k i) (some y) (v.buffer k)
-    at k = ap (λ (z : Slot). buffer_of z.buffer) (put s.slots i k x no_buffer e.slots h) ∙ either k (eqb k i)
+    at : (k : ℕ) → (vertices_of (place_buffer s i x)).buffer k ≡ cond (eqb k i) (Some y) (v.buffer k)
+    at k = ap buffer_of (put s.slots i k x None e.slots h) ∙ either k (eqb k i)
 
 pub placed-sees : (s : Settings) (g : Gl) (u : Used) (c : Command) → (breaks u c).range ≡ false → Sees s g → Sees (placed s c) (settings_after g c)
 placed-sees s g u (Draw t fv vc fi ic l) h e = e
@@ -144,10 +141,10 @@ placed-sees s g u (ConfigureDepthStencil a) h e = e
 placed-sees s g u (SetAlphaToCoverage a) h e = e
 placed-sees s g u (SetVertexAttribute b d a) h e =
     places-attribute s g.vertices g.fixed.program g.screen.blend a.location
-    (record { attribute = attribute.Some (record { buffer = b; buffer_desc = d; attribute_desc = a }) }) (or_left (leb 16 a.location) (leb 16 a.buffer_index) h) e
-placed-sees s g u (UnsetVertexAttribute l) h e = places-attribute s g.vertices g.fixed.program g.screen.blend l no_attribute h e
+    (Some (record { buffer = b; buffer_desc = d; attribute_desc = a })) (or_left (leb 16 a.location) (leb 16 a.buffer_index) h) e
+placed-sees s g u (UnsetVertexAttribute l) h e = places-attribute s g.vertices g.fixed.program g.screen.blend l None h e
 placed-sees s g u (SetVertexBuffer i b d) h e =
-    places-buffer s g.vertices g.fixed.program g.screen.blend i (record { buffer = buffer.Some (record { buffer = b; buffer_desc = d }) })
+    places-buffer s g.vertices g.fixed.program g.screen.blend i (Some (record { buffer = b; buffer_desc = d }))
     (record { binding = b; desc = d }) refl h e
 placed-sees s g u (SetProgram p) h e = record { vertices = e.vertices; program = refl; blend = e.blend; locations = e.locations; slots = e.slots }
 placed-sees s g u (SetPrimitive p) h e = e

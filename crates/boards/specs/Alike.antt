@@ -1,7 +1,6 @@
 -- When two draws fetch alike: document 02 §3, "by each attribute location set and not unset in the list without layout, the buffer, first byte, stride, step and format,
 -- and besides these the program and the blend constants". Read off the machines that the draws find (machine/specs/Found.antt). Definitions only.
-use Rattle.std.specs.Prelude.{ℕ, zero, suc, ◌≡◌, Bool, true, false, ◌&&◌, ◌||◌, eqb, Float}
-use Rattle.std.proofs.Math.Option.{Option, none, some}
+use Rattle.std.specs.Prelude.{ℕ, zero, suc, ◌≡◌, Bool, true, false, ◌&&◌, ◌||◌, eqb, Float, Option, None, Some}
 use Rattle.std.specs.Float.Ieee.{eq, is_nan}
 use Rattle.numbers.specs.Convert.{bits32}
 use Rattle.records.specs.Same.{same_int}
@@ -52,23 +51,23 @@ formats_alike x y = same_int x.element_count y.element_count && (eqb x.element_f
 
 -- "the buffer, first byte, stride, step"; without a buffer on both sides alike, on one side not
 abbrev pub sources_alike : Option Source → Option Source → Bool
-sources_alike none none = true
-sources_alike none (some y) = false
-sources_alike (some x) none = false
-sources_alike (some x) (some y) = eqb x.buffer y.buffer && (eqb x.first y.first && (eqb x.stride y.stride && same_step x.step y.step))
+sources_alike None None = true
+sources_alike None (Some y) = false
+sources_alike (Some x) None = false
+sources_alike (Some x) (Some y) = eqb x.buffer y.buffer && (eqb x.first y.first && (eqb x.stride y.stride && same_step x.step y.step))
 
 -- one location, first the list with layout: where the list without layout has no attribute set it is no part of the comparison
 abbrev pub location_alike : Option Fetch → Option Fetch → Bool
-location_alike x none = true
-location_alike none (some y) = false
-location_alike (some x) (some y) = formats_alike x.format y.format && sources_alike x.source y.source
+location_alike x None = true
+location_alike None (Some y) = false
+location_alike (Some x) (Some y) = formats_alike x.format y.format && sources_alike x.source y.source
 
 -- no program on both sides, or the same one
 abbrev pub same_program : Option ℕ → Option ℕ → Bool
-same_program none none = true
-same_program none (some q) = false
-same_program (some p) none = false
-same_program (some p) (some q) = eqb p q
+same_program None None = true
+same_program None (Some q) = false
+same_program (Some p) None = false
+same_program (Some p) (Some q) = eqb p q
 
 -- at every place below n
 unfoldable pub all_below : ℕ → (ℕ → Bool) → Bool

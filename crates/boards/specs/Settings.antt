@@ -1,6 +1,6 @@
 -- The settings of src/settings.rt, and the machine that has them. Definitions only.
-use Rattle.std.specs.Prelude.{ℕ, ◌+◌, cond, ltb, replicate, get_or, set}
-use Rattle.std.proofs.Math.Option.{Option, none, some}
+use Rattle.std.specs.Prelude.{ℕ, ◌+◌, cond, ltb, replicate, get_or, set, Option, None, Some}
+use Rattle.boards.specs.declared.settings.VertexBuffer.{VertexBuffer}
 use Rattle.std.specs.Float.{binary32}
 use Rattle.std.specs.Float.Ieee.{of_bits}
 use Rattle.records.specs.declared.command.Command.{Command}
@@ -12,44 +12,29 @@ use Rattle.records.specs.declared.command.Command.TheVariants.{SetStencilOps, Se
 use Rattle.records.specs.declared.command.Command.TheVariants.{UnsetVertexAttribute, SetVertexBuffer, SetProgram, SetPrimitive, SetBlendConstant, SetColorTarget, BindBuffer}
 use Rattle.records.specs.declared.command.Command.TheVariants.{BindSampler, BindTexture, BindImage, PushDebugGroup, PopDebugGroup, SetImmediates, SetClipDistances}
 use Rattle.records.specs.declared.command.ColorF32.{ColorF32}
-use Rattle.records.specs.declared.command.OptionU32.{OptionU32}
-use Rattle.records.specs.declared.command.OptionU32.TheVariants.{None, Some}
 use Rattle.machine.specs.View.{Source, Fetch}
 use Rattle.machine.specs.Machine as gl
 use Rattle.machine.specs.Machine.{Vertices, Gl, fresh_gl}
 use Rattle.machine.specs.Found.{source_of, fetch_of}
-use Rattle.boards.specs.declared.alike.OptionSource.{OptionSource}
-use Rattle.boards.specs.declared.alike.OptionSource.TheVariants as source
 use Rattle.boards.specs.declared.settings.Attribute.{Attribute}
-use Rattle.boards.specs.declared.settings.Location.{Location}
-use Rattle.boards.specs.declared.settings.OptionAttribute.{OptionAttribute}
-use Rattle.boards.specs.declared.settings.OptionAttribute.TheVariants as attribute
-use Rattle.boards.specs.declared.settings.OptionVertexBuffer.{OptionVertexBuffer}
-use Rattle.boards.specs.declared.settings.OptionVertexBuffer.TheVariants as buffer
 use Rattle.boards.specs.declared.settings.Settings.{Settings}
-use Rattle.boards.specs.declared.settings.Slot.{Slot}
+use Rattle.boards.specs.declared.alike.Source.{Source as Summed}
 
 -- ---- document 01: "On a fresh machine nothing is bound, .. blend constants are zero"
-abbrev pub no_attribute : Location
-no_attribute = record { attribute = attribute.None }
-
-abbrev pub no_buffer : Slot
-no_buffer = record { buffer = buffer.None }
-
 abbrev pub fresh_settings : Settings
 fresh_settings =
     record {
-      locations = replicate 16 no_attribute;
-      slots = replicate 16 no_buffer;
+      locations = replicate 16 None;
+      slots = replicate 16 None;
       program = None;
       blend = record { r = of_bits binary32 0; g = of_bits binary32 0; b = of_bits binary32 0; a = of_bits binary32 0 };
     }
 
 -- ---- a command, on the settings
-abbrev pub place_attribute : Settings → ℕ → Location → Settings
+abbrev pub place_attribute : Settings → ℕ → Option Attribute → Settings
 place_attribute s l x = record { locations = cond (ltb l 16) (set s.locations l x) s.locations; slots = s.slots; program = s.program; blend = s.blend }
 
-abbrev pub place_buffer : Settings → ℕ → Slot → Settings
+abbrev pub place_buffer : Settings → ℕ → Option VertexBuffer → Settings
 place_buffer s i x = record { locations = s.locations; slots = cond (ltb i 16) (set s.slots i x) s.slots; program = s.program; blend = s.blend }
 
 abbrev pub place_program : Settings → ℕ → Settings
@@ -93,9 +78,9 @@ placed s (SetDepth d) = s
 placed s (SetDepthBias d) = s
 placed s (ConfigureDepthStencil a) = s
 placed s (SetAlphaToCoverage a) = s
-placed s (SetVertexAttribute b d a) = place_attribute s a.location (record { attribute = attribute.Some (record { buffer = b; buffer_desc = d; attribute_desc = a }) })
-placed s (UnsetVertexAttribute l) = place_attribute s l no_attribute
-placed s (SetVertexBuffer i b d) = place_buffer s i (record { buffer = buffer.Some (record { buffer = b; buffer_desc = d }) })
+placed s (SetVertexAttribute b d a) = place_attribute s a.location (Some (record { buffer = b; buffer_desc = d; attribute_desc = a }))
+placed s (UnsetVertexAttribute l) = place_attribute s l None
+placed s (SetVertexBuffer i b d) = place_buffer s i (Some (record { buffer = b; buffer_desc = d }))
 placed s (SetProgram p) = place_program s p
 placed s (SetPrimitive p) = s
 placed s (SetBlendConstant c) = place_blend s c
@@ -110,23 +95,23 @@ placed s (SetImmediates d o) = s
 placed s (SetClipDistances old n) = s
 
 -- ---- the machine that has these settings, and no others
-abbrev pub attribute_in : Settings → ℕ → OptionAttribute
-attribute_in s l = (get_or s.locations l no_attribute).attribute
+abbrev pub attribute_in : Settings → ℕ → Option Attribute
+attribute_in s l = get_or s.locations l None
 
-abbrev pub buffer_in : Settings → ℕ → OptionVertexBuffer
-buffer_in s i = (get_or s.slots i no_buffer).buffer
+abbrev pub buffer_in : Settings → ℕ → Option VertexBuffer
+buffer_in s i = get_or s.slots i None
 
-abbrev pub attribute_of : OptionAttribute → Option gl.Attribute
-attribute_of attribute.None = none
-attribute_of (attribute.Some a) = some (record { buffer = a.buffer; desc = a.buffer_desc; attribute = a.attribute_desc })
+abbrev pub attribute_of : Option Attribute → Option gl.Attribute
+attribute_of None = None
+attribute_of (Some a) = Some (record { buffer = a.buffer; desc = a.buffer_desc; attribute = a.attribute_desc })
 
-abbrev pub buffer_of : OptionVertexBuffer → Option gl.VertexBuffer
-buffer_of buffer.None = none
-buffer_of (buffer.Some b) = some (record { binding = b.buffer; desc = b.buffer_desc })
+abbrev pub buffer_of : Option VertexBuffer → Option gl.VertexBuffer
+buffer_of None = None
+buffer_of (Some b) = Some (record { binding = b.buffer; desc = b.buffer_desc })
 
-abbrev pub program_of : OptionU32 → Option ℕ
-program_of None = none
-program_of (Some p) = some p
+abbrev pub program_of : Option ℕ → Option ℕ
+program_of None = None
+program_of (Some p) = Some p
 
 abbrev pub vertices_of : Settings → Vertices
 vertices_of s = record { attribute = λ l. attribute_of (attribute_in s l); buffer = λ i. buffer_of (buffer_in s i) }
@@ -136,25 +121,25 @@ gl_of s =
     record {
       vertices = vertices_of s;
       bindings = fresh_gl.bindings;
-      screen = record { viewport = none; scissor = none; blend = s.blend };
+      screen = record { viewport = None; scissor = None; blend = s.blend };
       fixed =
           record {
             program = program_of s.program;
-            primitive = none;
+            primitive = None;
             bias = fresh_gl.fixed.bias;
             alpha = fresh_gl.fixed.alpha;
             target = fresh_gl.fixed.target;
             clip = fresh_gl.fixed.clip;
-            aspects = none;
-            depth = none;
+            aspects = None;
+            depth = None;
           };
       faces = fresh_gl.faces;
     }
 
 -- ---- a source of src/alike.rt: the first byte is a sum
-abbrev pub source_is : OptionSource → Option Source
-source_is source.None = none
-source_is (source.Some x) = some (record { buffer = x.buffer; stride = x.stride; step = x.step; first = x.offset + x.base })
+abbrev pub source_is : Option Summed → Option Source
+source_is None = None
+source_is (Some x) = Some (record { buffer = x.buffer; stride = x.stride; step = x.step; first = x.offset + x.base })
 
 -- the source of an attribute, with the slots of these settings
 abbrev pub attribute_source : Settings → Attribute → Option Source
@@ -163,4 +148,4 @@ attribute_source s a =
 
 -- its fetch at a location
 abbrev pub fetch_in : Settings → ℕ → Attribute → Option Fetch
-fetch_in s l a = fetch_of l (λ i. buffer_of (buffer_in s i)) (attribute_of (attribute.Some a))
+fetch_in s l a = fetch_of l (λ i. buffer_of (buffer_in s i)) (attribute_of (Some a))

@@ -4,7 +4,7 @@ ghost use Rattle.lists.specs.Limits.{handed};
 ghost use Rattle.boards.specs.Alike.{same_bits};
 ghost use Rattle.boards.specs.Compared.{number};
 ghost use Rattle.boards.specs.Remains.{Answered};
-ghost use Rattle.boards.specs.Side.{no_record, first_answer, is_refusal, turns_of, first_side, start_of, has_more, advanced, one_more, with_a, with_b, told, at_draws, turn_of};
+ghost use Rattle.boards.specs.Side.{no_record, first_answer, turns_of, first_side, start_of, has_more, advanced, one_more, told, at_draws, turn_of};
 
 use crate::alike::alike;
 use crate::settings::{Settings, place};
@@ -14,7 +14,8 @@ use records::check::within;
 use records::command::{Command, Record};
 use records::limits::MAX_COMMANDS;
 
-#[derive(Clone, Copy)]
+// One enum, since the theorem `TwoBoards` and `compared` (specs/Compared.antt) name these answers.
+#[derive(Clone, Copy, Debug, PartialEq, Eq)]
 pub enum Compared {
     // Every draw fetches alike.
     Equal,
@@ -31,6 +32,7 @@ pub enum Compared {
 }
 
 // The number of a refusal; 0 where there is an answer.
+// A match, no cast: a case holds a number.
 pub fn compared_number(compared: Compared) -> u8
     ensures { result ≡ number compared }
 {
@@ -45,7 +47,7 @@ pub fn compared_number(compared: Compared) -> u8
 }
 
 // Two lists side by side: how many commands each has, how many have been played, and the settings
-// after them; how many draws were alike; the answer, and whether it is known.
+// after them; how many draws were alike; the answer, once it is known.
 #[derive(Clone, Copy)]
 pub struct Side {
     pub count: usize,
@@ -58,8 +60,7 @@ pub struct Both {
     pub a: Side,
     pub b: Side,
     pub draws: usize,
-    pub known: bool,
-    pub answer: Compared,
+    pub answer: Option<Compared>,
 }
 
 // What stands past the end of a list: no draw and no setting.
@@ -75,61 +76,42 @@ fn no_record() -> Record
 fn look(list: &[Record], at: usize, other: Record) -> Record
     ensures { result ≡ get_or list.now at other }
 {
-    if at < list.len() {
-        return list[at];
-    }
-    other
+    list.get(at).copied().unwrap_or(other)
 }
 
-// The answer that is known before any draw is compared; `Equal` where none is.
-fn first_answer(p: Surveyed, q: Surveyed) -> Compared
+// The answer that is known before any draw is compared.
+fn first_answer(p: Surveyed, q: Surveyed) -> Option<Compared>
     ensures { result ≡ first_answer p q }
 {
     let a = p.breaks;
     let b = q.breaks;
     if a.many | b.many {
-        return Compared::TooMany;
+        return Some(Compared::TooMany);
     }
     if a.range | b.range {
-        return Compared::OutOfRange;
+        return Some(Compared::OutOfRange);
     }
     if a.room | b.room {
-        return Compared::NoRoom;
+        return Some(Compared::NoRoom);
     }
     if p.draws != q.draws {
-        return Compared::DrawCounts;
+        return Some(Compared::DrawCounts);
     }
-    Compared::Equal
-}
-
-fn is_refusal(answer: Compared) -> bool
-    ensures { result ≡ is_refusal answer }
-{
-    match answer {
-        Compared::Equal => false,
-        Compared::Differs(_) => false,
-        Compared::TooMany => true,
-        Compared::OutOfRange => true,
-        Compared::NoRoom => true,
-        Compared::DrawCounts => true,
-    }
+    None
 }
 
 // One turn for each command, and one to find that both lists are at their ends.
 fn turns_of(p: Surveyed, q: Surveyed) -> usize
     ensures { result ≡ turns_of p q }
 {
-    let a = p.used;
-    let b = q.used;
-    within(a.commands, MAX_COMMANDS) + within(b.commands, MAX_COMMANDS) + 1
+    within(p.used.commands, MAX_COMMANDS) + within(q.used.commands, MAX_COMMANDS) + 1
 }
 
 fn first_side(p: Surveyed) -> Side
     ensures { result ≡ first_side p }
 {
-    let used = p.used;
     Side {
-        count: used.commands,
+        count: p.used.commands,
         at: 0,
         settings: Settings::new(),
     }
@@ -138,27 +120,12 @@ fn first_side(p: Surveyed) -> Side
 fn start(p: Surveyed, q: Surveyed) -> Both
     ensures { result ≡ start_of p q }
 {
-    let answer = first_answer(p, q);
-    let known = is_refusal(answer);
     Both {
         a: first_side(p),
         b: first_side(q),
         draws: 0,
-        known,
-        answer,
+        answer: first_answer(p, q),
     }
-}
-
-fn place_a(m: Both) -> usize
-    ensures { result ≡ m.a.at }
-{
-    m.a.at
-}
-
-fn place_b(m: Both) -> usize
-    ensures { result ≡ m.b.at }
-{
-    m.b.at
 }
 
 // The side has a command left.
@@ -173,12 +140,10 @@ fn advance(s: Side, x: Record) -> Side
     ensures { result ≡ advanced s x }
 {
     if s.at < s.count {
-        let settings = s.settings;
-        let command = x.command;
         return Side {
-            count: s.count,
             at: s.at + 1,
-            settings: place(settings, command),
+            settings: place(s.settings, x.command),
+            ..s
         };
     }
     s
@@ -199,14 +164,9 @@ fn one_more(draws: usize) -> usize
 fn tell(m: Both, answer: Compared) -> Both
     ensures { result ≡ told answer m }
 {
-    let a = m.a;
-    let b = m.b;
     Both {
-        a,
-        b,
-        draws: m.draws,
-        known: true,
-        answer,
+        answer: Some(answer),
+        ..m
     }
 }
 
@@ -214,42 +174,15 @@ fn tell(m: Both, answer: Compared) -> Both
 fn compare_draws(m: Both, x: Record, y: Record) -> Both
     ensures { result ≡ at_draws same_bits m x y }
 {
-    let a = m.a;
-    let b = m.b;
-    let s = a.settings;
-    let t = b.settings;
-    if alike(s, t) {
-        let after_a = advance(a, x);
-        let after_b = advance(b, y);
-        let draws = one_more(m.draws);
-        let mut next = m;
-        next.a = after_a;
-        next.b = after_b;
-        next.draws = draws;
-        return next;
+    if alike(m.a.settings, m.b.settings) {
+        return Both {
+            a: advance(m.a, x),
+            b: advance(m.b, y),
+            draws: one_more(m.draws),
+            ..m
+        };
     }
-    let answer = Compared::Differs(m.draws);
-    tell(m, answer)
-}
-
-fn go_on_a(m: Both, x: Record) -> Both
-    ensures { result ≡ with_a (advanced m.a x) m }
-{
-    let side = m.a;
-    let after = advance(side, x);
-    let mut next = m;
-    next.a = after;
-    next
-}
-
-fn go_on_b(m: Both, y: Record) -> Both
-    ensures { result ≡ with_b (advanced m.b y) m }
-{
-    let side = m.b;
-    let after = advance(side, y);
-    let mut next = m;
-    next.b = after;
-    next
+    tell(m, Compared::Differs(m.draws))
 }
 
 // A side that is not at a draw goes on; at two draws they are compared; at an end every draw was
@@ -257,34 +190,25 @@ fn go_on_b(m: Both, y: Record) -> Both
 fn turn(m: Both, x: Record, y: Record) -> Both
     ensures { result ≡ turn_of same_bits m x y }
 {
-    if m.known {
+    if m.answer.is_some() {
         return m;
     }
-    let a = m.a;
-    let b = m.b;
-    let c = x.command;
-    let d = y.command;
-    let more_a = has_more(a);
-    let more_b = has_more(b);
-    let class_a = class_of(c);
-    let class_b = class_of(d);
+    let more_a = has_more(m.a);
+    let more_b = has_more(m.b);
+    let class_a = class_of(x.command);
+    let class_b = class_of(y.command);
     if more_a & !is_draw(class_a) {
-        return go_on_a(m, x);
+        let a = advance(m.a, x);
+        return Both { a, ..m };
     }
     if more_b & !is_draw(class_b) {
-        return go_on_b(m, y);
+        let b = advance(m.b, y);
+        return Both { b, ..m };
     }
     if more_a & more_b {
         return compare_draws(m, x, y);
     }
-    let answer = Compared::Equal;
-    tell(m, answer)
-}
-
-fn answer_of(m: Both) -> Compared
-    ensures { result ≡ m.answer }
-{
-    m.answer
+    tell(m, Compared::Equal)
 }
 
 // Whether each draw of the two lists fetches alike, floats by their bits: `a` is the list with
@@ -297,14 +221,11 @@ pub fn compare(a: &[Record], used_a: Used, b: &[Record], used_b: Used) -> Compar
     let other = no_record();
     let n = turns_of(p, q);
     let mut m = start(p, q);
-    let mut i: usize = 0;
-    while i < n {
-        let e = place_a(m);
-        let r = look(a, e, other);
-        let f = place_b(m);
-        let s = look(b, f, other);
+    // `i` is for the proof, which counts the turns played.
+    for i in 0..n {
+        let r = look(a, m.a.at, other);
+        let s = look(b, m.b.at, other);
         m = turn(m, r, s);
-        i += 1;
     }
-    answer_of(m)
+    m.answer.unwrap()
 }

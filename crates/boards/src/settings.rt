@@ -1,32 +1,18 @@
 // The settings that a comparison looks at: the machine's (machine/specs/Machine.antt), as far as a
 // list within document 01's limits can set them.
 ghost use Rattle.std.specs.Prelude.{◌≡◌};
-ghost use Rattle.boards.specs.Settings.{no_attribute, no_buffer, fresh_settings, place_attribute, place_buffer, place_program, place_blend, placed};
+ghost use Rattle.boards.specs.Settings.{fresh_settings, place_attribute, place_buffer, placed};
 ghost use Rattle.records.specs.declared.command.Command.TheVariants.{SetVertexAttribute, SetVertexBuffer};
 
-use records::command::{
-    AttributeDesc, BufferBinding, ColorF32, Command, OptionU32, VertexBufferDesc,
-};
+use records::command::{AttributeDesc, BufferBinding, ColorF32, Command, VertexBufferDesc};
 use records::limits::{MAX_VERTEX_ATTRIBUTES, MAX_VERTEX_BUFFERS};
 
 // A vertex attribute as its command sets it.
 #[derive(Clone, Copy)]
 pub struct Attribute {
-    pub buffer: OptionU32,
+    pub buffer: Option<u32>,
     pub buffer_desc: VertexBufferDesc,
     pub attribute_desc: AttributeDesc,
-}
-
-#[derive(Clone, Copy)]
-pub enum OptionAttribute {
-    None,
-    Some(Attribute),
-}
-
-// What stands at a location.
-#[derive(Clone, Copy)]
-pub struct Location {
-    pub attribute: OptionAttribute,
 }
 
 // A vertex buffer as its command sets it.
@@ -36,44 +22,13 @@ pub struct VertexBuffer {
     pub buffer_desc: VertexBufferDesc,
 }
 
-#[derive(Clone, Copy)]
-pub enum OptionVertexBuffer {
-    None,
-    Some(VertexBuffer),
-}
-
-// What stands at a slot.
-#[derive(Clone, Copy)]
-pub struct Slot {
-    pub buffer: OptionVertexBuffer,
-}
-
+// What stands at each location and slot, the program, and the blend constants.
 #[derive(Clone, Copy)]
 pub struct Settings {
-    pub locations: [Location; MAX_VERTEX_ATTRIBUTES],
-    pub slots: [Slot; MAX_VERTEX_BUFFERS],
-    pub program: OptionU32,
+    pub locations: [Option<Attribute>; MAX_VERTEX_ATTRIBUTES],
+    pub slots: [Option<VertexBuffer>; MAX_VERTEX_BUFFERS],
+    pub program: Option<u32>,
     pub blend: ColorF32,
-}
-
-impl Location {
-    pub fn new() -> Self
-        ensures { result ≡ no_attribute }
-    {
-        Location {
-            attribute: OptionAttribute::None,
-        }
-    }
-}
-
-impl Slot {
-    pub fn new() -> Self
-        ensures { result ≡ no_buffer }
-    {
-        Slot {
-            buffer: OptionVertexBuffer::None,
-        }
-    }
 }
 
 impl Settings {
@@ -88,16 +43,16 @@ impl Settings {
             a: 0.0,
         };
         Settings {
-            locations: [Location::new(); MAX_VERTEX_ATTRIBUTES],
-            slots: [Slot::new(); MAX_VERTEX_BUFFERS],
-            program: OptionU32::None,
+            locations: [None; MAX_VERTEX_ATTRIBUTES],
+            slots: [None; MAX_VERTEX_BUFFERS],
+            program: None,
             blend,
         }
     }
 }
 
 // At a location of 16 or more nothing is set: a list with one is turned away.
-fn place_attribute(s: Settings, location: u32, held: Location) -> Settings
+fn place_attribute(s: Settings, location: u32, held: Option<Attribute>) -> Settings
     ensures { result ≡ place_attribute s location held }
 {
     let mut next = s;
@@ -109,7 +64,7 @@ fn place_attribute(s: Settings, location: u32, held: Location) -> Settings
 }
 
 // The same of a slot.
-fn place_buffer(s: Settings, slot: u32, held: Slot) -> Settings
+fn place_buffer(s: Settings, slot: u32, held: Option<VertexBuffer>) -> Settings
     ensures { result ≡ place_buffer s slot held }
 {
     let mut next = s;
@@ -122,20 +77,18 @@ fn place_buffer(s: Settings, slot: u32, held: Slot) -> Settings
 
 fn set_attribute(
     s: Settings,
-    buffer: OptionU32,
+    buffer: Option<u32>,
     buffer_desc: VertexBufferDesc,
     attribute_desc: AttributeDesc,
 ) -> Settings
     ensures { result ≡ placed s (SetVertexAttribute buffer buffer_desc attribute_desc) }
 {
-    let a = Attribute {
+    let held = Attribute {
         buffer,
         buffer_desc,
         attribute_desc,
     };
-    let attribute = OptionAttribute::Some(a);
-    let held = Location { attribute };
-    place_attribute(s, attribute_desc.location, held)
+    place_attribute(s, attribute_desc.location, Some(held))
 }
 
 fn set_buffer(
@@ -146,36 +99,11 @@ fn set_buffer(
 ) -> Settings
     ensures { result ≡ placed s (SetVertexBuffer index buffer buffer_desc) }
 {
-    let b = VertexBuffer {
+    let held = VertexBuffer {
         buffer,
         buffer_desc,
     };
-    let bound = OptionVertexBuffer::Some(b);
-    let held = Slot { buffer: bound };
-    place_buffer(s, index, held)
-}
-
-fn place_program(s: Settings, program: u32) -> Settings
-    ensures { result ≡ place_program s program }
-{
-    let locations = s.locations;
-    let slots = s.slots;
-    let blend = s.blend;
-    let held = OptionU32::Some(program);
-    Settings {
-        locations,
-        slots,
-        program: held,
-        blend,
-    }
-}
-
-fn place_blend(s: Settings, blend: ColorF32) -> Settings
-    ensures { result ≡ place_blend s blend }
-{
-    let mut next = s;
-    next.blend = blend;
-    next
+    place_buffer(s, index, Some(held))
 }
 
 // The settings after a command.
@@ -188,14 +116,17 @@ pub fn place(s: Settings, command: Command) -> Settings
             buffer_desc,
             attribute_desc,
         } => set_attribute(s, buffer, buffer_desc, attribute_desc),
-        Command::UnsetVertexAttribute(location) => place_attribute(s, location, Location::new()),
+        Command::UnsetVertexAttribute(location) => place_attribute(s, location, None),
         Command::SetVertexBuffer {
             index,
             buffer,
             buffer_desc,
         } => set_buffer(s, index, buffer, buffer_desc),
-        Command::SetProgram(program) => place_program(s, program),
-        Command::SetBlendConstant(blend) => place_blend(s, blend),
+        Command::SetProgram(program) => Settings {
+            program: Some(program),
+            ..s
+        },
+        Command::SetBlendConstant(blend) => Settings { blend, ..s },
         _ => s,
     }
 }

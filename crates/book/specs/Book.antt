@@ -1,8 +1,8 @@
 -- The book of document 01: "fed each call's arguments and whether it was accepted". It never sees the recorder's state or the list. Definitions only.
 -- It knows calls and document 01, and nothing of the recorder. It shares with it the declared records, the GL numbers of WebGPU's names (`names`, from OpenGL ES)
 -- and the conversions of numbers (`numbers`): these have definitions of their own, from the public documents.
-use Rattle.std.specs.Prelude.{ℕ, ◌+◌, ◌*◌, Bool, true, false, cond, List, [], ◌∷◌, ◌++◌, map, ltb, ℤ, pos, ◌+ℤ◌, take, get_or}
-use Rattle.std.proofs.Math.Option.{Option, none, some}
+use Rattle.std.specs.Prelude.{ℕ, ◌+◌, ◌*◌, Bool, true, false, cond, List, [], ◌∷◌, ◌++◌, map, ltb, ℤ, pos, ◌+ℤ◌, take, get_or, Option, None, Some}
+use Rattle.names.specs.declared.gl.StencilState.{StencilState}
 use Rattle.std.specs.Float.{binary32}
 use Rattle.std.specs.Float.Ieee.{of_bits}
 use Rattle.tables.specs.Tabulate.{tabulate, upd}
@@ -29,18 +29,10 @@ use Rattle.records.specs.declared.command.Command.TheVariants.{Draw, DrawIndexed
 use Rattle.records.specs.declared.command.DepthState.{DepthState}
 use Rattle.records.specs.declared.command.Extent3d.{Extent3d}
 use Rattle.records.specs.declared.command.ImageBinding.{ImageBinding}
-use Rattle.records.specs.declared.command.OptionU32.{OptionU32}
-use Rattle.records.specs.declared.command.OptionU32.TheVariants.{None, Some}
 use Rattle.records.specs.declared.command.RectI32.{RectI32}
 use Rattle.records.specs.declared.command.VertexBufferDesc.{VertexBufferDesc}
 use Rattle.records.specs.declared.command.VertexStepMode.{VertexStepMode}
 use Rattle.records.specs.declared.command.VertexStepMode.TheVariants.{Vertex, Instance}
-use Rattle.records.specs.declared.pipeline.OptionDepthState.{OptionDepthState}
-use Rattle.records.specs.declared.pipeline.OptionDepthState.TheVariants as depth
-use Rattle.records.specs.declared.pipeline.OptionStencilState.{OptionStencilState}
-use Rattle.records.specs.declared.pipeline.OptionStencilState.TheVariants as stencil
-use Rattle.records.specs.declared.pipeline.OptionVertexBufferDesc.{OptionVertexBufferDesc}
-use Rattle.records.specs.declared.pipeline.OptionVertexBufferDesc.TheVariants as layout
 use Rattle.records.specs.declared.pipeline.PrivateCapabilities.{PrivateCapabilities}
 use Rattle.records.specs.declared.pipeline.RenderPipeline.{RenderPipeline}
 use Rattle.records.specs.declared.state.IndexFormat.{IndexFormat}
@@ -58,7 +50,7 @@ pub record Bound : Type 0 where
   pub buffers : ℕ → ℕ → Option BufferRange
   pub textures : ℕ → Option TextureBinding
   pub images : ℕ → Option ImageBinding
-  pub samplers : ℕ → OptionU32
+  pub samplers : ℕ → Option ℕ
 
 -- a draw as the book has it: the pipeline of that moment, and what the book names
 pub record Entered : Type 0 where
@@ -84,15 +76,15 @@ abbrev pub empty : Book
 empty =
     record {
       stage = before;
-      pipeline = none;
-      reference = none;
-      buffer = λ i. none;
-      index = none;
+      pipeline = None;
+      reference = None;
+      buffer = λ i. None;
+      index = None;
       format = Uint32;
       offset = 0;
-      bound = record { buffers = λ t i. none; textures = λ i. none; images = λ i. none; samplers = λ k. None };
-      viewport = none;
-      scissor = none;
+      bound = record { buffers = λ t i. None; textures = λ i. None; images = λ i. None; samplers = λ k. None };
+      viewport = None;
+      scissor = None;
       blend = record { r = of_bits binary32 0; g = of_bits binary32 0; b = of_bits binary32 0; a = of_bits binary32 0 };
       draws = [];
     }
@@ -105,18 +97,18 @@ abbrev pub targets_in : RenderPipeline → List ColorTargetDesc
 targets_in p = take p.color_target_count p.color_targets
 
 -- a description, if one is given
-abbrev pub given : OptionVertexBufferDesc → Option VertexBufferDesc
-given layout.None = none
-given (layout.Some d) = some d
+abbrev pub given : Option VertexBufferDesc → Option VertexBufferDesc
+given None = None
+given (Some d) = Some d
 
 -- how the pipeline describes slot i, if it does
 abbrev pub describes : RenderPipeline → ℕ → Option VertexBufferDesc
-describes p i = cond (ltb i p.vertex_buffer_count) (given (get_or p.vertex_buffers i (record { desc = layout.None })).desc) none
+describes p i = cond (ltb i p.vertex_buffer_count) (given (get_or p.vertex_buffers i (record { desc = None })).desc) None
 
 -- the book has one
 abbrev pub known : {A : Type 0} → Option A → Bool
-known none = false
-known (some a) = true
+known None = false
+known (Some a) = true
 
 -- ---- what the book names at a draw
 -- "if stepped by instance"
@@ -126,19 +118,19 @@ if_instance Instance n = n
 
 -- "attribute offset plus buffer offset plus, if stepped by instance, working instance times stride"
 abbrev pub named_source : ℕ → ℕ → Option VertexBufferDesc → Option BufferBinding → Option Source
-named_source w offset none b = none
-named_source w offset (some d) none = none
-named_source w offset (some d) (some b) =
-    some (record { buffer = b.raw; stride = d.stride; step = d.step; first = offset + b.offset + if_instance d.step (w * d.stride) })
+named_source w offset None b = None
+named_source w offset (Some d) None = None
+named_source w offset (Some d) (Some b) =
+    Some (record { buffer = b.raw; stride = d.stride; step = d.step; first = offset + b.offset + if_instance d.step (w * d.stride) })
 
 -- how the book's pipeline describes a slot
 abbrev pub desc_by : Option RenderPipeline → ℕ → Option VertexBufferDesc
-desc_by none i = none
-desc_by (some p) i = describes p i
+desc_by None i = None
+desc_by (Some p) i = describes p i
 
 abbrev pub named_fetch : Book → ℕ → AttributeDesc → Option Fetch
 named_fetch b w a =
-    some
+    Some
     (record {
       location = a.location;
       format = a.format_desc;
@@ -147,64 +139,64 @@ named_fetch b w a =
     })
 
 -- "per unit the sampler its number in the pipeline names or none"
-abbrev pub named_sampler : (ℕ → OptionU32) → OptionU32 → OptionU32
+abbrev pub named_sampler : (ℕ → Option ℕ) → Option ℕ → Option ℕ
 named_sampler f None = None
 named_sampler f (Some k) = f k
 
 -- the sampler number that it has for unit u
-abbrev pub number_by : Option RenderPipeline → ℕ → OptionU32
-number_by none u = None
-number_by (some p) u = (get_or p.inner.sampler_map u (record { sampler_index = None })).sampler_index
+abbrev pub number_by : Option RenderPipeline → ℕ → Option ℕ
+number_by None u = None
+number_by (Some p) u = (get_or p.inner.sampler_map u (record { sampler_index = None })).sampler_index
 
 -- what it says, if there is one; and with a value that stands for none
 abbrev pub by : {A : Type 0} → (RenderPipeline → A) → Option RenderPipeline → Option A
-by f none = none
-by f (some p) = some (f p)
+by f None = None
+by f (Some p) = Some (f p)
 
 abbrev pub by_or : {A : Type 0} → A → (RenderPipeline → A) → Option RenderPipeline → A
-by_or d f none = d
-by_or d f (some p) = f p
+by_or d f None = d
+by_or d f (Some p) = f p
 
 -- "whether it has depth and stencil"
-abbrev pub has_depth : OptionDepthState → Bool
-has_depth depth.None = false
-has_depth (depth.Some d) = true
+abbrev pub has_depth : Option DepthState → Bool
+has_depth None = false
+has_depth (Some d) = true
 
-abbrev pub has_stencil : OptionStencilState → Bool
-has_stencil stencil.None = false
-has_stencil (stencil.Some s) = true
+abbrev pub has_stencil : Option StencilState → Bool
+has_stencil None = false
+has_stencil (Some s) = true
 
-abbrev pub named_depth : OptionDepthState → Option DepthState
-named_depth depth.None = none
-named_depth (depth.Some d) = some d
+abbrev pub named_depth : Option DepthState → Option DepthState
+named_depth None = None
+named_depth (Some d) = Some d
 
 -- a face's function with the book's reference
 abbrev pub named_func : StencilSide → Option ℕ → Option StencilFunc
-named_func s none = none
-named_func s (some r) = some (record { function = s.function; reference = r; read = s.mask_read })
+named_func s None = None
+named_func s (Some r) = Some (record { function = s.function; reference = r; read = s.mask_read })
 
 abbrev pub named_ops : StencilSide → Option FaceOps
-named_ops s = some (record { write = s.mask_write; ops = s.ops })
+named_ops s = Some (record { write = s.mask_write; ops = s.ops })
 
 abbrev pub front_of : Option References → Option ℕ
-front_of none = none
-front_of (some r) = some r.front
+front_of None = None
+front_of (Some r) = Some r.front
 
 abbrev pub back_of : Option References → Option ℕ
-back_of none = none
-back_of (some r) = some r.back
+back_of None = None
+back_of (Some r) = Some r.back
 
-abbrev pub named_faces : Option References → OptionStencilState → Option Stencil
-named_faces r stencil.None = none
-named_faces r (stencil.Some s) = some (record { front = named_func s.front (front_of r); back = named_func s.back (back_of r); front_ops = named_ops s.front; back_ops = named_ops s.back })
+abbrev pub named_faces : Option References → Option StencilState → Option Stencil
+named_faces r None = None
+named_faces r (Some s) = Some (record { front = named_func s.front (front_of r); back = named_func s.back (back_of r); front_ops = named_ops s.front; back_ops = named_ops s.back })
 
 abbrev pub stencil_named : Option References → Option RenderPipeline → Option Stencil
-stencil_named r none = none
-stencil_named r (some p) = named_faces r p.stencil
+stencil_named r None = None
+stencil_named r (Some p) = named_faces r p.stencil
 
 abbrev pub depth_named : Option RenderPipeline → Option DepthState
-depth_named none = none
-depth_named (some p) = named_depth p.depth
+depth_named None = None
+depth_named (Some p) = named_depth p.depth
 
 -- what the book names at a draw of this command, indexed or not, with this working instance
 abbrev pub names : Book → ℕ → Bool → Command → View
@@ -217,7 +209,7 @@ names b w indexed c =
       textures = b.bound.textures;
       images = b.bound.images;
       samplers = tabulate 16 (λ u. named_sampler b.bound.samplers (number_by b.pipeline u));
-      index = cond indexed b.index none;
+      index = cond indexed b.index None;
       viewport = b.viewport;
       scissor = b.scissor;
       blend = b.blend;
@@ -236,7 +228,7 @@ names b w indexed c =
 abbrev pub topology_by : Option RenderPipeline → ℕ
 topology_by p = by_or 0 (λ (p : RenderPipeline). primitive_topology p.topology) p
 
-abbrev pub location_by : Option RenderPipeline → OptionU32
+abbrev pub location_by : Option RenderPipeline → Option ℕ
 location_by p = by_or None (λ (p : RenderPipeline). p.inner.first_instance_location) p
 
 -- OpenGL ES 3.2, 10.5: UNSIGNED_SHORT (5123) has two bytes, UNSIGNED_INT (5125) four
@@ -307,7 +299,7 @@ with_index raw f o b =
       pipeline = b.pipeline;
       reference = b.reference;
       buffer = b.buffer;
-      index = some raw;
+      index = Some raw;
       format = f;
       offset = o;
       bound = b.bound;
@@ -323,7 +315,7 @@ with_buffer i x b =
       stage = b.stage;
       pipeline = b.pipeline;
       reference = b.reference;
-      buffer = upd b.buffer i (some x);
+      buffer = upd b.buffer i (Some x);
       index = b.index;
       format = b.format;
       offset = b.offset;
@@ -370,9 +362,9 @@ in_stage st b =
 
 -- ---- the rules
 -- "sets the reference to that of its stencil, or to none"
-abbrev pub reference_of : OptionStencilState → Option References
-reference_of stencil.None = none
-reference_of (stencil.Some s) = some (record { front = s.front.reference; back = s.back.reference })
+abbrev pub reference_of : Option StencilState → Option References
+reference_of None = None
+reference_of (Some s) = Some (record { front = s.front.reference; back = s.back.reference })
 
 -- OpenGL ES 3.2, table 6.1: UNIFORM_BUFFER (35345), SHADER_STORAGE_BUFFER (37074)
 abbrev pub target_of : BindingType → ℕ
@@ -411,14 +403,14 @@ offset_in e offset os = cond (is_dynamic e.ty) (offset +ℤ pos (next_of os)) of
 abbrev pub enter_entry : BindGroupLayoutEntry → RawBinding → List ℕ → Bound → Bound
 enter_entry e (content.Buffer raw offset size) os b =
     record {
-      buffers = upd b.buffers (target_of e.ty) (upd (b.buffers (target_of e.ty)) e.slot (some (record { buffer = raw; offset = offset_in e offset os; size = size })));
+      buffers = upd b.buffers (target_of e.ty) (upd (b.buffers (target_of e.ty)) e.slot (Some (record { buffer = raw; offset = offset_in e offset os; size = size })));
       textures = b.textures;
       images = b.images;
       samplers = b.samplers;
     }
 enter_entry e (content.Texture raw target aspects mips) os b =
-    record { buffers = b.buffers; textures = upd b.textures e.slot (some (record { texture = raw; target = target; aspects = aspects; mips = mips })); images = b.images; samplers = b.samplers }
-enter_entry e (content.Image x) os b = record { buffers = b.buffers; textures = b.textures; images = upd b.images e.slot (some x); samplers = b.samplers }
+    record { buffers = b.buffers; textures = upd b.textures e.slot (Some (record { texture = raw; target = target; aspects = aspects; mips = mips })); images = b.images; samplers = b.samplers }
+enter_entry e (content.Image x) os b = record { buffers = b.buffers; textures = b.textures; images = upd b.images e.slot (Some x); samplers = b.samplers }
 enter_entry e (content.Sampler k) os b = record { buffers = b.buffers; textures = b.textures; images = b.images; samplers = upd b.samplers e.slot (Some k) }
 
 -- the layout's entries and the group's contents side by side, as far as both go
@@ -476,7 +468,7 @@ enter caps b end_render_pass = b
 enter caps b end_compute_pass = b
 enter caps b (begin_render_pass d label set) =
     in_stage (next_stage b.stage)
-    (with_screen (some (record { rect = extent_of d.extent; depth = record { start = of_bits binary32 0; end = of_bits binary32 0x3f80_0000 } })) (some (extent_of d.extent)) b.blend b)
+    (with_screen (Some (record { rect = extent_of d.extent; depth = record { start = of_bits binary32 0; end = of_bits binary32 0x3f80_0000 } })) (Some (extent_of d.extent)) b.blend b)
 enter caps b (begin_compute_pass t label set) = b
 enter caps b (transition_buffers l) = b
 enter caps b (transition_textures l) = b
@@ -489,13 +481,13 @@ enter caps b (write_timestamp set i) = b
 enter caps b (reset_queries set start end) = b
 enter caps b (set_bind_group l i e g os) = with_bound (enter_group (entries_in l i e) (take g.content_count g.contents) (take os.count os.run) b.bound) b
 enter caps b (set_immediates offset ws) = b
-enter caps b (set_render_pipeline p) = with_pipeline (some p) (reference_of p.stencil) b
+enter caps b (set_render_pipeline p) = with_pipeline (Some p) (reference_of p.stencil) b
 enter caps b (set_compute_pipeline p) = b
 enter caps b (set_index_buffer raw offset format) = with_index raw format offset b
 enter caps b (set_vertex_buffer i raw offset) = with_buffer i (record { raw = raw; offset = offset }) b
-enter caps b (set_viewport r d) = with_screen (some (record { rect = viewport_of r; depth = d })) b.scissor b.blend b
-enter caps b (set_scissor_rect r) = with_screen b.viewport (some (scissor_of r)) b.blend b
-enter caps b (set_stencil_reference v) = with_pipeline b.pipeline (some (record { front = v; back = v })) b
+enter caps b (set_viewport r d) = with_screen (Some (record { rect = viewport_of r; depth = d })) b.scissor b.blend b
+enter caps b (set_scissor_rect r) = with_screen b.viewport (Some (scissor_of r)) b.blend b
+enter caps b (set_stencil_reference v) = with_pipeline b.pipeline (Some (record { front = v; back = v })) b
 enter caps b (set_blend_constants c) = with_screen b.viewport b.scissor c b
 enter caps b (draw vertex vertices instance instances) = enter_draw (working_of caps instance) false (Draw (topology_by b.pipeline) vertex vertices instance instances (location_by b.pipeline)) b
 enter caps b (draw_indexed fst count base instance instances) =

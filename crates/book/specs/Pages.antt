@@ -1,6 +1,5 @@
 -- Demand 3's second sentence: the accepted draw calls of the first render pass, and the book at each of them. Definitions only.
-use Rattle.std.specs.Prelude.{ℕ, cond, List, [], ◌∷◌, map, take}
-use Rattle.std.proofs.Math.Option.{Option, none, some}
+use Rattle.std.specs.Prelude.{ℕ, cond, List, [], ◌∷◌, map, take, Option, None, Some}
 use Rattle.records.specs.declared.command.BufferBinding.{BufferBinding}
 use Rattle.records.specs.declared.command.ColorF32.{ColorF32}
 use Rattle.records.specs.declared.command.RectI32.{RectI32}
@@ -115,8 +114,8 @@ trimmed p =
     }
 
 abbrev pub trimmed_if : Option RenderPipeline → Option RenderPipeline
-trimmed_if none = none
-trimmed_if (some p) = some (trimmed p)
+trimmed_if None = None
+trimmed_if (Some p) = Some (trimmed p)
 
 abbrev pub with_pipeline : Page → Option RenderPipeline → Page
 with_pipeline g o =

@@ -1,6 +1,5 @@
 -- Document 01's premises, of one accepted call, in the book's words. Definitions only.
-use Rattle.std.specs.Prelude.{ℕ, ◌<◌, ◌≡◌, true}
-use Rattle.std.proofs.Math.Option.{some}
+use Rattle.std.specs.Prelude.{ℕ, ◌<◌, ◌≡◌, true, Some}
 use Rattle.records.specs.declared.pipeline.RenderPipeline.{RenderPipeline}
 use Rattle.calls.specs.Call.{Call, begin_encoding, end_encoding, begin_render_pass, end_render_pass, begin_compute_pass, end_compute_pass, transition_buffers, transition_textures, clear_buffer, copy_buffer_to_buffer, copy_query_results, begin_query, end_query, write_timestamp, reset_queries, set_bind_group, set_immediates, set_render_pipeline, set_compute_pipeline, set_index_buffer, set_vertex_buffer, set_viewport, set_scissor_rect, set_stencil_reference, set_blend_constants, draw, draw_indexed, draw_indirect, draw_indexed_indirect, dispatch_workgroups, dispatch_workgroups_indirect}
 use Rattle.machine.specs.View.{first}
@@ -9,7 +8,7 @@ use Rattle.book.specs.Book.{Book, describes, known}
 -- "the book has a pipeline and a buffer for each slot that this describes"
 pub record Ready (b : Book) : Type 0 where
   pub pipeline : RenderPipeline
-  pub is : b.pipeline ≡ some pipeline
+  pub is : b.pipeline ≡ Some pipeline
   pub bound : (i : ℕ) → i < 16 → known (describes pipeline i) ≡ true → known (b.buffer i) ≡ true
 
 -- "at each accepted draw of the first render pass"; an indirect call with count 0 makes no draw

@@ -97,12 +97,6 @@ module _ (rooms : Rooms) (b : Broken) (p : Progress) (c : Conditions) (phase : P
   pub said : {o : Outcome} {t u : Bool} → o ≡ verdict → t ≡ accepted o → t ≡ u → accepted verdict ≡ u
   said e a h = sym (ap accepted e) ∙ sym a ∙ h
 
-  pub carried : {o : Outcome} → o ≡ verdict → accepted verdict ≡ true → (o ≡ verdict) × (true ≡ accepted verdict) × (grown p phase more ≡ taken verdict (grown p phase more) p)
-  carried e a = (e, sym a, rw a)
-
-  pub refused : {o : Outcome} → o ≡ verdict → accepted verdict ≡ false → (o ≡ verdict) × (false ≡ accepted verdict) × (p ≡ taken verdict (grown p phase more) p)
-  refused e a = (e, sym a, rw a)
-
 -- both definitions of the verdict are one
 pub judged-by : (rooms : Rooms) (s : State) (c : Conditions) (phase : Phase) (more : Counts) → judged rooms s c phase more ≡ judged_by rooms (broken_limits s) s.progress c phase more
 judged-by rooms s c phase more = refl

@@ -1,7 +1,7 @@
 pub mod Judged
-pub mod Limit
 pub mod Plans
 pub mod Listed
+pub mod Copied
 pub mod Moved
 pub mod Alone
 pub mod Began

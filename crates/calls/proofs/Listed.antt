@@ -36,7 +36,7 @@ module _ {X Y : Type 0} (w : Y → X) where
   map-append (x ∷ xs) ys = ap (λ (l : List X). w x ∷ l) (map-append xs ys)
 
   -- the first n of a list, by place
-  firsts-are : (f : ℕ → Y) (ys : List Y) (d : Y) (n : ℕ) → n ≤ length ys → ((i : ℕ) → i < n → f i ≡ get_or ys i d) → firsts (λ i. w (f i)) n ≡ map w (take n ys)
+  pub firsts-are : (f : ℕ → Y) (ys : List Y) (d : Y) (n : ℕ) → n ≤ length ys → ((i : ℕ) → i < n → f i ≡ get_or ys i d) → firsts (λ i. w (f i)) n ≡ map w (take n ys)
   unfolding firsts
   firsts-are f ys d zero h e = refl
   firsts-are f ys d (suc n) h e =
@@ -66,7 +66,7 @@ laid-written w none run at p n f (c ∷ cs) m fits behind e =
     ∙ ap (λ (k : ℕ). take k run ++ (map w (c ∷ cs) ++ drop (k + n) run)) here
     ∙ ap (λ (k : ℕ). take p run ++ (map w (c ∷ cs) ++ drop (p + k) run)) long
 
-map_same : {X : Type 0} (xs : List X) → map (λ x. x) xs ≡ xs
+pub map_same : {X : Type 0} (xs : List X) → map (λ x. x) xs ≡ xs
 map_same [] = refl
 map_same (x ∷ xs) = ap (λ (l : List _). x ∷ l) (map_same xs)
 

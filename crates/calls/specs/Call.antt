@@ -1,5 +1,5 @@
 -- The 31 recording calls, each with its arguments: `impl CommandEncoder` of gles/command.rs, the calls of document 01, "Phases". Definitions only.
-use Rattle.std.specs.Prelude.{ℕ, ℤ}
+use Rattle.std.specs.Prelude.{ℕ, ℤ, Option}
 use Rattle.records.specs.declared.args.Buffer.{Buffer}
 use Rattle.records.specs.declared.args.RectF32.{RectF32}
 use Rattle.records.specs.declared.args.RectU32.{RectU32}
@@ -9,7 +9,7 @@ use Rattle.records.specs.declared.binding.BindGroup.{BindGroup}
 use Rattle.records.specs.declared.command.ColorF32.{ColorF32}
 use Rattle.records.specs.declared.command.DepthRange.{DepthRange}
 use Rattle.records.specs.declared.command.MemoryRange.{MemoryRange}
-use Rattle.records.specs.declared.pass.OptionTimestampWrites.{OptionTimestampWrites}
+use Rattle.records.specs.declared.pass.TimestampWrites.{TimestampWrites}
 use Rattle.records.specs.declared.pass.RenderPassDescriptor.{RenderPassDescriptor}
 use Rattle.records.specs.declared.pipeline.RenderPipeline.{RenderPipeline}
 use Rattle.records.specs.declared.pipeline.ComputePipeline.{ComputePipeline}
@@ -24,7 +24,7 @@ pub record QuerySet : Type 0 where
 pub data Call : Type 0 where
   begin_encoding end_encoding end_render_pass end_compute_pass : Call
   begin_render_pass : RenderPassDescriptor → Label → Lent → Call
-  begin_compute_pass : OptionTimestampWrites → Label → Lent → Call
+  begin_compute_pass : Option TimestampWrites → Label → Lent → Call
   transition_buffers transition_textures : Lent → Call
   clear_buffer : Buffer → MemoryRange → Call
   copy_buffer_to_buffer : Buffer → Buffer → Lent → Call

@@ -1,10 +1,9 @@
 -- The draw commands. Definitions only.
-use Rattle.std.specs.Prelude.{ℕ, ◌+◌, ◌*◌, ◌-◌, ◌^◌, Bool, ◌&&◌, List, ltb, leb, eqb, ℤ}
+use Rattle.std.specs.Prelude.{ℕ, ◌+◌, ◌*◌, ◌-◌, ◌^◌, Bool, ◌&&◌, List, ltb, leb, eqb, ℤ, Option}
 use Rattle.tables.specs.Tabulate.{tabulate}
 use Rattle.names.specs.Gl.{GL_UNSIGNED_SHORT, GL_UNSIGNED_INT}
 use Rattle.records.specs.declared.command.Command.{Command}
 use Rattle.records.specs.declared.command.Command.TheVariants.{Draw, DrawIndexed, DrawIndirect, DrawIndexedIndirect}
-use Rattle.records.specs.declared.command.OptionU32.{OptionU32}
 use Rattle.records.specs.declared.state.IndexFormat.{IndexFormat}
 use Rattle.records.specs.declared.state.IndexFormat.TheVariants.{Uint16, Uint32}
 
@@ -19,7 +18,7 @@ index_size Uint32 = 4
 -- what a draw command takes from the last pipeline and index buffer
 pub record DrawArgs : Type 0 where
   pub topology : ℕ
-  pub location : OptionU32
+  pub location : Option ℕ
   pub format : IndexFormat
   pub offset : ℕ
 

@@ -1,8 +1,7 @@
 -- The state with one part changed, and what some calls make of a part. Definitions only.
-use Rattle.std.specs.Prelude.{ℕ, replicate}
+use Rattle.std.specs.Prelude.{ℕ, replicate, Option}
 use Rattle.names.specs.Start.{start_primitive_state}
 use Rattle.names.specs.declared.gl.StencilState.{StencilState}
-use Rattle.records.specs.declared.command.OptionU32.{OptionU32}
 use Rattle.records.specs.declared.pipeline.PrivateCapabilities.{PrivateCapabilities}
 use Rattle.records.specs.declared.state.Progress.{Progress}
 use Rattle.records.specs.declared.state.VertexState.{VertexState}
@@ -38,7 +37,7 @@ abbrev pub with_immediates : ImmediateState → State → State
 with_immediates i s = record { progress = s.progress; vertex = s.vertex; draw = s.draw; fixed = s.fixed; bind = s.bind; pass = s.pass; immediates = i }
 
 -- ---- small parts of effects
-abbrev pub with_location : OptionU32 → DrawState → DrawState
+abbrev pub with_location : Option ℕ → DrawState → DrawState
 with_location l d = record { topology = d.topology; index_format = d.index_format; index_offset = d.index_offset; first_instance_location = l }
 
 abbrev pub with_topology : ℕ → DrawState → DrawState

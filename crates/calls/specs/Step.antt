@@ -1,5 +1,5 @@
 -- What each of the 31 calls means, and `step`: document 01, demand 1. Definitions only.
-use Rattle.std.specs.Prelude.{ℕ, ◌+◌, Bool, false, cond, not, ◌&&◌, ◌||◌, List, [], ◌∷◌, ◌++◌, map, ltb, leb, eqb, length, get_or, take, ℤ}
+use Rattle.std.specs.Prelude.{ℕ, ◌+◌, Bool, false, cond, not, ◌&&◌, ◌||◌, List, [], ◌∷◌, ◌++◌, map, ltb, leb, eqb, length, get_or, take, ℤ, Option}
 use Rattle.names.specs.Maps.{primitive_topology}
 use Rattle.records.specs.Start.{start_state}
 use Rattle.records.specs.Outcome.{accepted, either, smallest}
@@ -18,7 +18,7 @@ use Rattle.records.specs.declared.command.DepthRange.{DepthRange}
 use Rattle.records.specs.declared.command.MemoryRange.{MemoryRange}
 use Rattle.records.specs.declared.outcome.Outcome.{Outcome}
 use Rattle.records.specs.declared.outcome.Conditions.{Conditions}
-use Rattle.records.specs.declared.pass.OptionTimestampWrites.{OptionTimestampWrites}
+use Rattle.records.specs.declared.pass.TimestampWrites.{TimestampWrites}
 use Rattle.records.specs.declared.pass.RenderPassDescriptor.{RenderPassDescriptor}
 use Rattle.records.specs.declared.pipeline.PrivateCapabilities.{PrivateCapabilities}
 use Rattle.records.specs.declared.pipeline.RenderPipeline.{RenderPipeline}
@@ -99,7 +99,7 @@ end_render_meaning s =
       handed = list_run;
     }
 
-abbrev pub begin_compute_meaning : State → OptionTimestampWrites → Label → Lent → Meaning
+abbrev pub begin_compute_meaning : State → Option TimestampWrites → Label → Lent → Meaning
 begin_compute_meaning s t label set =
     record {
       allowed = in_open;

@@ -1,8 +1,7 @@
 -- Draws worked out, by computation. Assumes nothing.
-use Rattle.std.specs.Prelude.{◌≡◌, refl, [], ◌∷◌, pos}
+use Rattle.std.specs.Prelude.{◌≡◌, refl, [], ◌∷◌, pos, None}
 use Rattle.tables.specs.Tabulate.{tabulate}
 use Rattle.records.specs.declared.command.Command.TheVariants.{DrawIndexed, DrawIndexedIndirect}
-use Rattle.records.specs.declared.command.OptionU32.TheVariants.{None}
 use Rattle.records.specs.declared.state.IndexFormat.TheVariants.{Uint16}
 use Rattle.calls.specs.Draws.{DrawArgs, draw_indexed_command, indexed_indirect_commands}
 

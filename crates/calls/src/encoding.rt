@@ -13,6 +13,8 @@ use records::pipeline::PrivateCapabilities;
 use records::state::{Answer, Phase, Progress, State, VertexSlot, VertexState};
 use slots::slot_at;
 
+// List, board and state are parameters of each call (state by value, the list lent): a struct would
+// ask callers for another type.
 pub fn begin_encoding(caps: PrivateCapabilities, s: State) -> Answer
     ensures { Keeps caps s begin_encoding result }
 {
@@ -100,13 +102,9 @@ pub fn set_vertex_buffer(
     let phase = p.phase;
     let vertex = s.vertex;
     let c = Conditions {
-        phase: !in_render(phase),
-        many: false,
         range: 16 <= index,
         absent: buffer == 0,
-        kind: false,
-        sum: false,
-        room: false,
+        ..in_phase(in_render(phase))
     };
     let rooms = no_rooms();
     let more = nothing();

@@ -50,16 +50,7 @@ fn over_after(p: Progress, phase: Phase, more: Counts, r: Rooms) -> bool
 pub fn accepted(outcome: Outcome) -> bool
     ensures { result ≡ accepted_of outcome }
 {
-    match outcome {
-        Outcome::Done => true,
-        Outcome::WrongPhase => false,
-        Outcome::TooMany => false,
-        Outcome::OutOfRange => false,
-        Outcome::Absent => false,
-        Outcome::WrongKind => false,
-        Outcome::Overflow => false,
-        Outcome::NoRoom => false,
-    }
+    matches!(outcome, Outcome::Done)
 }
 
 // The smallest number whose condition holds, of a call with conditions `c` that ends in `phase` and
@@ -77,17 +68,16 @@ fn outcome_for(
     let full = over_room(p, rooms);
     let over = over_after(p, phase, more, rooms);
     let all = Conditions {
-        phase: c.phase,
         many: broken.many | c.many,
         range: broken.range | c.range,
-        absent: c.absent,
         kind: broken.kind | c.kind,
-        sum: c.sum,
         room: full | (c.room | over),
+        ..c
     };
     outcome_of(all)
 }
 
+// No `Result`: the plan of a refused call has a progress and a place too, and each part would match anew.
 #[derive(Clone, Copy)]
 pub struct Verdict {
     pub outcome: Outcome,
@@ -123,6 +113,13 @@ pub fn judge(
         ok: false,
         progress: p,
     }
+}
+
+// What a call that is carried through makes of a part of the state, and a refused one leaves.
+pub fn taken<T: Copy>(ok: bool, new: T, old: T) -> T
+    ensures { result ≡ cond ok new old }
+{
+    if ok { new } else { old }
 }
 
 // The rooms of a call that is handed the command list alone.

@@ -1,4 +1,4 @@
-// The state with one part changed.
+// The state with one part changed: an assignment to a copy, not a state built anew (docs/DECISIONS.md, D77).
 ghost use Rattle.std.specs.Prelude.{◌≡◌};
 ghost use Rattle.calls.specs.Parts.{with_progress, with_vertex, with_draw, with_fixed, with_bind, with_pass, with_immediates};
 

@@ -8,67 +8,37 @@ use records::state::Phase;
 pub fn in_closed(phase: Phase) -> bool
     ensures { result ≡ in_closed phase }
 {
-    match phase {
-        Phase::Closed => true,
-        Phase::Open => false,
-        Phase::Render => false,
-        Phase::Compute => false,
-    }
+    matches!(phase, Phase::Closed)
 }
 
 pub fn in_open(phase: Phase) -> bool
     ensures { result ≡ in_open phase }
 {
-    match phase {
-        Phase::Closed => false,
-        Phase::Open => true,
-        Phase::Render => false,
-        Phase::Compute => false,
-    }
+    matches!(phase, Phase::Open)
 }
 
 pub fn in_render(phase: Phase) -> bool
     ensures { result ≡ in_render phase }
 {
-    match phase {
-        Phase::Closed => false,
-        Phase::Open => false,
-        Phase::Render => true,
-        Phase::Compute => false,
-    }
+    matches!(phase, Phase::Render)
 }
 
 pub fn in_compute(phase: Phase) -> bool
     ensures { result ≡ in_compute phase }
 {
-    match phase {
-        Phase::Closed => false,
-        Phase::Open => false,
-        Phase::Render => false,
-        Phase::Compute => true,
-    }
+    matches!(phase, Phase::Compute)
 }
 
 pub fn in_pass(phase: Phase) -> bool
     ensures { result ≡ in_pass phase }
 {
-    match phase {
-        Phase::Closed => false,
-        Phase::Open => false,
-        Phase::Render => true,
-        Phase::Compute => true,
-    }
+    matches!(phase, Phase::Render | Phase::Compute)
 }
 
 pub fn not_closed(phase: Phase) -> bool
     ensures { result ≡ not_closed phase }
 {
-    match phase {
-        Phase::Closed => false,
-        Phase::Open => true,
-        Phase::Render => true,
-        Phase::Compute => true,
-    }
+    !in_closed(phase)
 }
 
 // Only the phase is asked for.
@@ -91,13 +61,8 @@ pub fn in_phase_with(allowed: bool, absent: bool) -> Conditions
     ensures { result ≡ record { phase = not allowed; many = no; range = no; absent = absent; kind = no; sum = no; room = no } }
 {
     Conditions {
-        phase: !allowed,
-        many: false,
-        range: false,
         absent,
-        kind: false,
-        sum: false,
-        room: false,
+        ..in_phase(allowed)
     }
 }
 
@@ -106,13 +71,10 @@ pub fn range_asks(allowed: bool, range: bool, sum: bool, short: bool) -> Conditi
     ensures { result ≡ record { phase = not allowed; many = no; range = range; absent = no; kind = no; sum = sum; room = short } }
 {
     Conditions {
-        phase: !allowed,
-        many: false,
         range,
-        absent: false,
-        kind: false,
         sum,
         room: short,
+        ..in_phase(allowed)
     }
 }
 

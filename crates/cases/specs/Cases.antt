@@ -1,5 +1,5 @@
 -- Document 01's cases by computation, as rows of one table: after the calls before it, what the last call answers and records. Assumes nothing.
-use Rattle.std.specs.Prelude.{ℕ, ◌≡◌, refl, Bool, true, false, ◌&&◌, List, [], ◌∷◌, ◌++◌, map, ℤ, pos, negsuc, replicate}
+use Rattle.std.specs.Prelude.{ℕ, ◌≡◌, refl, Bool, true, false, ◌&&◌, List, [], ◌∷◌, ◌++◌, map, ℤ, pos, negsuc, replicate, None, Some}
 use Rattle.std.specs.Float.{binary32, binary64}
 use Rattle.std.specs.Float.Ieee.{of_bits, round}
 use Rattle.mask.specs.Mask.{test_bit, bit_at, set_bit, without, mask_of, places_from}
@@ -16,20 +16,14 @@ use Rattle.records.specs.declared.binding.BufferBindingType.TheVariants.{Storage
 use Rattle.records.specs.declared.binding.RawBinding.TheVariants as content
 use Rattle.records.specs.declared.command.Command.{Command}
 use Rattle.records.specs.declared.command.Command.TheVariants.{Draw, ResetFramebuffer, BindAttachment, InvalidateAttachments, SetDrawColorBuffers, ClearColorF, ClearColorU, ClearDepthAndStencil, SetViewport, SetScissor, SetStencilFunc, SetStencilOps, SetDepth, SetDepthBias, ConfigureDepthStencil, SetVertexAttribute, SetProgram, SetPrimitive, SetColorTarget, BindBuffer, PushDebugGroup, PopDebugGroup, SetImmediates}
-use Rattle.records.specs.declared.command.OptionBlend.TheVariants.{None as no_blend}
 use Rattle.records.specs.declared.command.ColorTargetDesc.{ColorTargetDesc}
 use Rattle.records.specs.declared.command.DepthBiasState.{DepthBiasState}
 use Rattle.records.specs.declared.command.ImmediateDesc.{ImmediateDesc}
-use Rattle.records.specs.declared.command.OptionU32.TheVariants.{None, Some}
 use Rattle.records.specs.declared.command.SampleKind.TheVariants as kind
 use Rattle.records.specs.declared.command.TextureInner.TheVariants.{DefaultRenderbuffer, Texture, ExternalNativeFramebuffer}
 use Rattle.records.specs.declared.command.TextureView.{TextureView}
 use Rattle.records.specs.declared.command.VertexStepMode.TheVariants.{Vertex, Instance}
 use Rattle.records.specs.declared.pass.ColorF64.{ColorF64}
-use Rattle.records.specs.declared.pass.OptionDepthStencil.TheVariants as target
-use Rattle.records.specs.declared.pass.OptionTimestampWrites.TheVariants as writes
-use Rattle.records.specs.declared.pass.OptionView.TheVariants as view
-use Rattle.records.specs.declared.pipeline.OptionStencilState.TheVariants as stencil
 use Rattle.records.specs.declared.pipeline.PrivateCapabilities.{PrivateCapabilities}
 use Rattle.records.specs.declared.pipeline.RenderPipeline.{RenderPipeline}
 use Rattle.slots.specs.Prepare.{buffer_commands, attribute_commands, sent_of}
@@ -103,20 +97,20 @@ two = pipeline 1 (by_vertex 8 ∷ by_vertex 4 ∷ []) []
 
 -- with a stencil whose reference is 0; with front face `Cw`; with an immediate descriptor of four bytes at 252
 abbrev stenciled : RenderPipeline
-stenciled = pipeline_of (inner_of 1 [] []) [] [] (stencil.Some start_stencil_state) Ccw
+stenciled = pipeline_of (inner_of 1 [] []) [] [] (Some start_stencil_state) Ccw
 
 abbrev clockwise : RenderPipeline
-clockwise = pipeline_of (inner_of 1 [] []) [] [] stencil.None Cw
+clockwise = pipeline_of (inner_of 1 [] []) [] [] None Cw
 
 abbrev last_word : ImmediateDesc
 last_word = record { location = 3; ty = 9; offset = 252; size_bytes = 4 }
 
 abbrev immediate : RenderPipeline
-immediate = pipeline_of (inner_of 1 [] (last_word ∷ [])) [] [] stencil.None Ccw
+immediate = pipeline_of (inner_of 1 [] (last_word ∷ [])) [] [] None Ccw
 
 -- with depth, targets that differ, and a bias; with equal targets and another bias; with neither
 abbrev pub masked : ℕ → ColorTargetDesc
-masked m = record { mask = m; blend = no_blend }
+masked m = record { mask = m; blend = None }
 
 abbrev biased : ℕ → DepthBiasState
 biased slope = record { constant = pos 5; slope_scale = slope; clamp = 0 }
@@ -155,12 +149,12 @@ black = colour 0 0 0 0
 
 -- the default renderbuffer at place 1; at place 0, all places cleared, resolved and discarded
 abbrev at_place_1 : Call
-at_place_1 = pass (filled float 9 view.None black ∷ filled default 17 view.None black ∷ []) target.None
+at_place_1 = pass (filled float 9 None black ∷ filled default 17 None black ∷ []) None
 
 abbrev at_place_0 : Call
 at_place_0 =
-    pass (filled default 18 (view.Some float) (colour 0x3fe0_0000_0000_0000 0 0 0x3ff0_0000_0000_0000) ∷ filled float 18 (view.Some float) black ∷ [])
-    (target.Some
+    pass (filled default 18 (Some float) (colour 0x3fe0_0000_0000_0000 0 0 0x3ff0_0000_0000_0000) ∷ filled float 18 (Some float) black ∷ [])
+    (Some
     (record { view = depth_stencil; depth_ops = 18; stencil_ops = 18; clear_depth = of_bits binary32 0x3f80_0000; clear_stencil = 3 }))
 
 -- scissor and viewport of a pass of 4 by 3
@@ -191,7 +185,7 @@ cases =
     -- P 6: "A at 0, B at 5, A at 5", document 02, request 5: "now binds offset 56"
     ∷ records emulated (with A ++ draw_at 0 ∷ set_render_pipeline B ∷ draw_at 5 ∷ set_render_pipeline A ∷ []) (draw_at 5) (bound 0 56 Instance 8 ∷ drawn 5 ∷ [])
     -- P 7: "dispatch (0,1,1): nothing"
-    ∷ records emulated (begin_compute_pass writes.None no_label no_queries ∷ []) (dispatch_workgroups 0 1 1) []
+    ∷ records emulated (begin_compute_pass None no_label no_queries ∷ []) (dispatch_workgroups 0 1 1) []
     -- P 8: "viewport width −2.9: −2"
     ∷ records emulated (bare_pass ∷ []) (viewport (of_bits binary32 0xc039_999a)) (sized (negsuc 1))
     -- P 9: "NaN: 0"
@@ -199,13 +193,13 @@ cases =
     -- P 10: "3e9: 2,147,483,647"
     ∷ records emulated (bare_pass ∷ []) (viewport (of_bits binary32 0x4f32_d05e)) (sized (pos 2147483647))
     -- P 11: "Uint colour −1.5: 0"
-    ∷ records emulated [] (pass (filled uint 10 view.None (colour 0xbff8_0000_0000_0000 0 0 0) ∷ []) target.None)
+    ∷ records emulated [] (pass (filled uint 10 None (colour 0xbff8_0000_0000_0000 0 0 0) ∷ []) None)
     (ResetFramebuffer false ∷ BindAttachment 36064 uint None 1 ∷ extents
     ++ SetDrawColorBuffers 1 ∷ ClearColorU 0 (record { r = 0; g = 0; b = 0; a = 0 }) ∷ [])
     -- P 12: "places [empty, cleared Uint]", document 02, request 1: draw buffer 1
     ∷ records emulated []
-    (pass (no_place ∷ filled uint 10 view.None (colour 0x401c_0000_0000_0000 0x4020_0000_0000_0000 0x4022_0000_0000_0000 0x4024_0000_0000_0000) ∷ [])
-    target.None)
+    (pass (no_place ∷ filled uint 10 None (colour 0x401c_0000_0000_0000 0x4020_0000_0000_0000 0x4022_0000_0000_0000 0x4024_0000_0000_0000) ∷ [])
+    None)
     (ResetFramebuffer false ∷ BindAttachment 36065 uint None 1 ∷ extents
     ++ SetDrawColorBuffers 2 ∷ ClearColorU 1 (record { r = 7; g = 8; b = 9; a = 10 }) ∷ [])
     -- ---- the other edges
@@ -218,8 +212,8 @@ cases =
     ∷ records emulated (bare_pass ∷ []) (set_scissor_rect (record { x = 2147483648; y = 0; w = 4294967295; h = 1 }))
     (SetScissor (rect (negsuc 2147483647) (pos 0) (negsuc 0) (pos 1)) ∷ [])
     -- "An empty label is still pushed and popped"
-    ∷ records emulated [] (begin_compute_pass writes.None empty_label no_queries) (PushDebugGroup (record { start = 0; end = 0 }) ∷ [])
-    ∷ records emulated (begin_compute_pass writes.None empty_label no_queries ∷ []) end_compute_pass (PopDebugGroup ∷ [])
+    ∷ records emulated [] (begin_compute_pass None empty_label no_queries) (PushDebugGroup (record { start = 0; end = 0 }) ∷ [])
+    ∷ records emulated (begin_compute_pass None empty_label no_queries ∷ []) end_compute_pass (PopDebugGroup ∷ [])
     -- "Front face `Cw` becomes GL_CCW"
     ∷ records emulated (bare_pass ∷ []) (set_render_pipeline clockwise)
     (SetProgram 1 ∷ SetPrimitive (record { front_face = 2305; cull_face = 0; unclipped_depth = false; polygon_mode = 6914 })
@@ -275,13 +269,13 @@ cases =
     -- 1: "a draw before any pass"
     ∷ refused 1 emulated [] (draw_at 0)
     -- 2: "9 colour places"
-    ∷ refused 2 emulated [] (begin_render_pass (pass_of 9 [] target.None) no_label no_queries)
+    ∷ refused 2 emulated [] (begin_render_pass (pass_of 9 [] None) no_label no_queries)
     -- 3: "vertex slot 16"
     ∷ refused 3 emulated (bare_pass ∷ []) (set_vertex_buffer 16 7 0)
     -- 4: "attribute of slot 3, only slot 0 described"
     ∷ refused 4 emulated (bare_pass ∷ []) (set_render_pipeline (pipeline 1 (by_vertex 8 ∷ []) (attribute 0 0 3 ∷ [])))
     -- 5: "an external framebuffer beside a texture"
-    ∷ refused 5 emulated [] (pass (filled external 9 view.None black ∷ filled float 9 view.None black ∷ []) target.None)
+    ∷ refused 5 emulated [] (pass (filled external 9 None black ∷ filled float 9 None black ∷ []) None)
     -- 6: "first instance 65,536, stride 65,536, slot dirty"
     ∷ refused 6 emulated (with wide) (draw_at 65536)
     -- 7: "a draw at command 4,096"; the one at command 4,095 is carried through

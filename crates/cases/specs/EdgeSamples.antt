@@ -1,5 +1,5 @@
 -- What the rows of `Edges` are made of: boards, passes, pipelines, bind groups, and a few commands. Definitions only.
-use Rattle.std.specs.Prelude.{ℕ, Bool, true, false, List, [], ◌∷◌, ◌++◌, ℤ, pos, length, replicate}
+use Rattle.std.specs.Prelude.{ℕ, Bool, true, false, List, [], ◌∷◌, ◌++◌, ℤ, pos, length, replicate, Option, None, Some}
 use Rattle.std.specs.Float.{binary32}
 use Rattle.std.specs.Float.Ieee.{of_bits}
 use Rattle.tables.specs.Tabulate.{tabulate}
@@ -22,21 +22,13 @@ use Rattle.records.specs.declared.command.Command.TheVariants.{ClearColorF, SetP
 use Rattle.records.specs.declared.command.Extent3d.{Extent3d}
 use Rattle.records.specs.declared.command.ImageBinding.{ImageBinding}
 use Rattle.records.specs.declared.command.ImmediateDesc.{ImmediateDesc}
-use Rattle.records.specs.declared.command.OptionU32.{OptionU32}
-use Rattle.records.specs.declared.command.OptionU32.TheVariants.{None, Some}
+use Rattle.records.specs.declared.pass.DepthStencilAttachment.{DepthStencilAttachment}
+use Rattle.records.specs.declared.pass.TimestampWrites.{TimestampWrites}
 use Rattle.records.specs.declared.command.SampleKind.TheVariants as kind
 use Rattle.records.specs.declared.command.TextureInner.TheVariants.{Renderbuffer, Texture}
 use Rattle.records.specs.declared.command.TextureView.{TextureView}
 use Rattle.records.specs.declared.pass.ColorPlace.{ColorPlace}
-use Rattle.records.specs.declared.pass.OptionColorAttachment.TheVariants as place
-use Rattle.records.specs.declared.pass.OptionDepthStencil.{OptionDepthStencil}
-use Rattle.records.specs.declared.pass.OptionDepthStencil.TheVariants as target
-use Rattle.records.specs.declared.pass.OptionTimestampWrites.{OptionTimestampWrites}
-use Rattle.records.specs.declared.pass.OptionTimestampWrites.TheVariants as writes
-use Rattle.records.specs.declared.pass.OptionView.TheVariants as view
 use Rattle.records.specs.declared.pass.RenderPassDescriptor.{RenderPassDescriptor}
-use Rattle.records.specs.declared.pipeline.OptionDepthState.TheVariants as depth
-use Rattle.records.specs.declared.pipeline.OptionStencilState.TheVariants as stencil
 use Rattle.records.specs.declared.pipeline.PrivateCapabilities.{PrivateCapabilities}
 use Rattle.records.specs.declared.pipeline.RenderPipeline.{RenderPipeline}
 use Rattle.records.specs.declared.pipeline.SamplerBind.{SamplerBind}
@@ -75,21 +67,21 @@ abbrev pub stencil_alone : TextureView
 stencil_alone = viewed (Texture 5 3553) 4 kind.Uint false
 
 -- a pass of that width, height, sample count, places and timestamps, without depth and stencil
-abbrev pub pass_by : ℕ → ℕ → ℕ → List ColorPlace → OptionTimestampWrites → RenderPassDescriptor
+abbrev pub pass_by : ℕ → ℕ → ℕ → List ColorPlace → Option TimestampWrites → RenderPassDescriptor
 pass_by width height samples places stamps =
     record {
       extent = record { width = width; height = height; depth_or_array_layers = 1 };
       sample_count = samples;
       color_attachments = padded 8 no_place places;
       color_attachment_count = length places;
-      depth_stencil_attachment = target.None;
+      depth_stencil_attachment = None;
       timestamp_writes = stamps;
     }
 
 -- a view for depth and stencil, the operations of both, clear values 0.5 and 3; a pass with it alone
-abbrev pub half : TextureView → ℕ → ℕ → OptionDepthStencil
+abbrev pub half : TextureView → ℕ → ℕ → Option DepthStencilAttachment
 half v depth-ops stencil-ops =
-    target.Some
+    Some
     (record { view = v; depth_ops = depth-ops; stencil_ops = stencil-ops; clear_depth = of_bits binary32 0x3f00_0000; clear_stencil = 3 })
 
 abbrev pub deep : TextureView → ℕ → ℕ → Call
@@ -98,10 +90,10 @@ deep v depth-ops stencil-ops = pass [] (half v depth-ops stencil-ops)
 -- slice 5 of the float texture, with its operations, resolved into a view; a pass of such places with four samples
 abbrev pub resolved : ℕ → TextureView → ColorPlace
 resolved ops dst =
-    record { attachment = place.Some (record { view = float; depth_slice = Some 5; resolve_target = view.Some dst; ops = ops; clear_value = black }) }
+    record { attachment = Some (record { view = float; depth_slice = Some 5; resolve_target = Some dst; ops = ops; clear_value = black }) }
 
 abbrev pub resolving : List ColorPlace → Call
-resolving places = begin_render_pass (pass_by 4 3 4 places writes.None) no_label no_queries
+resolving places = begin_render_pass (pass_by 4 3 4 places None) no_label no_queries
 
 -- query sets of target 36392: queries 31 and 32; 1,024 queries
 abbrev pub two_queries : QuerySet
@@ -115,18 +107,18 @@ abbrev pub labelled : ℕ → Label
 labelled n = record { present = true; bytes = lent (replicate n 104) }
 
 abbrev pub full_bytes : List Call
-full_bytes = begin_compute_pass writes.None (labelled 65536) no_queries ∷ end_compute_pass ∷ []
+full_bytes = begin_compute_pass None (labelled 65536) no_queries ∷ end_compute_pass ∷ []
 
 -- a pass with the label `hi`, the timestamps of both queries, and a place that is resolved and discarded
 abbrev pub marked : Call
 marked =
     begin_render_pass
-    (pass_by 4 3 1 (resolved 17 into ∷ []) (writes.Some (record { beginning_of_pass_write_index = Some 0; end_of_pass_write_index = Some 1 })))
+    (pass_by 4 3 1 (resolved 17 into ∷ []) (Some (record { beginning_of_pass_write_index = Some 0; end_of_pass_write_index = Some 1 })))
     (record { present = true; bytes = lent (104 ∷ 105 ∷ []) }) two_queries.queries
 
 -- an unlabelled compute pass
 abbrev pub compute : Call
-compute = begin_compute_pass writes.None no_label no_queries
+compute = begin_compute_pass None no_label no_queries
 
 -- slot 15 alone by vertex; attributes at locations 2 and 5 of slot 0
 abbrev pub last_slot : RenderPipeline
@@ -146,7 +138,7 @@ abbrev pub fetched : VertexBufferLayout → ℕ → List Call
 fetched l offset = bare_pass ∷ set_render_pipeline (pipeline 1 (l ∷ []) (attribute 0 offset 0 ∷ [])) ∷ set_vertex_buffer 0 7 0 ∷ []
 
 -- a location of the first instance, and a count of clip distances
-abbrev pub special : OptionU32 → ℕ → RenderPipeline
+abbrev pub special : Option ℕ → ℕ → RenderPipeline
 special location clips =
     pipeline_of
     (record {
@@ -157,7 +149,7 @@ special location clips =
       immediates_count = 0;
       clip_distance_count = clips;
     })
-    [] [] stencil.None Ccw
+    [] [] None Ccw
 
 -- keep for the three stencil operations; a face with the masks by which it reads and writes; a pipeline with that back face
 abbrev pub keeps : StencilOps
@@ -174,7 +166,7 @@ face reads writes =
     }
 
 abbrev pub two_faced : StencilSide → RenderPipeline
-two_faced back = pipeline_of (inner_of 1 [] []) [] [] (stencil.Some (record { front = face 255 255; back = back })) Ccw
+two_faced back = pipeline_of (inner_of 1 [] []) [] [] (Some (record { front = face 255 255; back = back })) Ccw
 
 -- units 1 and 4 take sampler number 2; unit 4 alone does
 abbrev pub both_units : List SamplerBind
@@ -208,9 +200,9 @@ counting coverage slots attributes targets descs =
       vertex_attribute_count = attributes;
       color_targets = replicate 8 start_target;
       color_target_count = targets;
-      depth = depth.None;
+      depth = None;
       depth_bias = start_depth_bias;
-      stencil = stencil.None;
+      stencil = None;
       alpha_to_coverage_enabled = coverage;
     })
 
@@ -219,13 +211,13 @@ abbrev pub located : ℕ → ℕ → Call
 located location slot = set_render_pipeline (pipeline 1 (replicate 16 (by_vertex 8)) (attribute location 0 slot ∷ []))
 
 abbrev pub taking : ℕ → Call
-taking k = set_render_pipeline (pipeline_of (inner_of 1 (takes k ∷ []) []) [] [] stencil.None Ccw)
+taking k = set_render_pipeline (pipeline_of (inner_of 1 (takes k ∷ []) []) [] [] None Ccw)
 
 abbrev pub described : ℕ → ℕ → ImmediateDesc
 described offset size = record { location = 3; ty = 9; offset = offset; size_bytes = size }
 
 abbrev pub sending : List ImmediateDesc → Call
-sending descs = set_render_pipeline (pipeline_of (inner_of 1 [] descs) [] [] stencil.None Ccw)
+sending descs = set_render_pipeline (pipeline_of (inner_of 1 [] descs) [] [] None Ccw)
 
 -- contents of a bind group: buffer 6 at an offset, texture 9, texture 4 as an image, sampler 8
 abbrev pub buffer : ℤ → RawBinding

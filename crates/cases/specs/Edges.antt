@@ -1,6 +1,6 @@
 -- Document 01's limits, passes, pipelines, bindings and single calls by computation: a second table, its rows as in `Cases`. Assumes nothing.
 -- The letter and number above a row are the item's in docs/COVERAGE.md.
-use Rattle.std.specs.Prelude.{◌≡◌, refl, true, false, List, [], ◌∷◌, ◌++◌, map, pos, negsuc, replicate}
+use Rattle.std.specs.Prelude.{◌≡◌, refl, true, false, List, [], ◌∷◌, ◌++◌, map, pos, negsuc, replicate, None, Some}
 use Rattle.std.specs.Float.{binary32}
 use Rattle.std.specs.Float.Ieee.{of_bits, round}
 use Rattle.mask.specs.Mask.{test_bit, bit_at, set_bit, without, mask_of, places_from}
@@ -13,11 +13,7 @@ use Rattle.records.specs.declared.binding.BindingType.TheVariants as type
 use Rattle.records.specs.declared.binding.BufferBindingType.TheVariants.{Uniform, Storage}
 use Rattle.records.specs.declared.binding.RawBinding.TheVariants as content
 use Rattle.records.specs.declared.command.Command.TheVariants.{Draw, DrawIndexed, DrawIndirect, DrawIndexedIndirect, Dispatch, DispatchIndirect, ClearBuffer, CopyBufferToBuffer, SetIndexBuffer, BeginQuery, EndQuery, TimestampQuery, CopyQueryResults, ResetFramebuffer, BindAttachment, ResolveAttachment, InvalidateAttachments, SetDrawColorBuffers, ClearColorF, ClearColorI, ClearDepth, ClearStencil, BufferBarrier, TextureBarrier, SetViewport, SetScissor, SetStencilFunc, SetStencilOps, SetDepth, ConfigureDepthStencil, SetAlphaToCoverage, SetVertexAttribute, UnsetVertexAttribute, SetProgram, SetBlendConstant, SetColorTarget, BindBuffer, BindSampler, BindTexture, BindImage, PushDebugGroup, PopDebugGroup, SetImmediates, SetClipDistances}
-use Rattle.records.specs.declared.command.OptionU32.TheVariants.{None, Some}
 use Rattle.records.specs.declared.command.VertexStepMode.TheVariants.{Vertex, Instance}
-use Rattle.records.specs.declared.pass.OptionDepthStencil.TheVariants as target
-use Rattle.records.specs.declared.pass.OptionTimestampWrites.TheVariants as writes
-use Rattle.records.specs.declared.pass.OptionView.TheVariants as view
 use Rattle.records.specs.declared.state.IndexFormat.TheVariants.{Uint16}
 use Rattle.slots.specs.Prepare.{buffer_commands, attribute_commands, sent_of}
 use Rattle.bindings.specs.Group.{no_group, zipped, group_commands, group_state, textures_named, samplers_named, offsets_used, group_over}
@@ -41,31 +37,31 @@ abbrev edges : List Case
 edges =
     -- ---- places, slots and kinds
     -- T2: 8 colour places, the last one filled
-    records emulated [] (pass (replicate 7 no_place ++ filled float 9 view.None black ∷ []) target.None)
+    records emulated [] (pass (replicate 7 no_place ++ filled float 9 None black ∷ []) None)
     (ResetFramebuffer false ∷ BindAttachment 36071 float None 1 ∷ extents ++ SetDrawColorBuffers 8 ∷ [])
     -- T3: vertex slot 15, and a draw that binds it
     ∷ records emulated (bare_pass ∷ []) (set_vertex_buffer 15 7 16) []
     ∷ records emulated (bare_pass ∷ set_render_pipeline last_slot ∷ set_vertex_buffer 15 7 16 ∷ []) (draw_at 0) (bound 15 16 Vertex 8 ∷ drawn 0 ∷ [])
     -- P2, T5: an external framebuffer alone has no draw buffer count; beside an empty place it is refused
-    ∷ records emulated [] (pass (filled external 9 view.None black ∷ []) target.None)
+    ∷ records emulated [] (pass (filled external 9 None black ∷ []) None)
     (ResetFramebuffer false ∷ BindAttachment 36064 external None 1 ∷ extents)
-    ∷ refused 5 emulated [] (pass (filled external 9 view.None black ∷ no_place ∷ []) target.None)
+    ∷ refused 5 emulated [] (pass (filled external 9 None black ∷ no_place ∷ []) None)
     -- P4, T5: a depth kind cleared as colour; loaded it passes
-    ∷ refused 5 emulated [] (pass (filled depth_stencil 10 view.None black ∷ []) target.None)
-    ∷ records emulated [] (pass (filled depth_stencil 9 view.None black ∷ []) target.None)
+    ∷ refused 5 emulated [] (pass (filled depth_stencil 10 None black ∷ []) None)
+    ∷ records emulated [] (pass (filled depth_stencil 9 None black ∷ []) None)
     (ResetFramebuffer false ∷ BindAttachment 36064 depth_stencil None 1 ∷ extents ++ SetDrawColorBuffers 1 ∷ [])
     -- P4: a Sint colour of −1.5, 2 to the 32, NaN and 2.9
     ∷ records emulated []
-    (pass (filled sint 10 view.None (colour 0xbff8_0000_0000_0000 0x41f0_0000_0000_0000 0x7ff8_0000_0000_0000 0x4007_3333_3333_3333) ∷ []) target.None)
+    (pass (filled sint 10 None (colour 0xbff8_0000_0000_0000 0x41f0_0000_0000_0000 0x7ff8_0000_0000_0000 0x4007_3333_3333_3333) ∷ []) None)
     (ResetFramebuffer false ∷ BindAttachment 36064 sint None 1 ∷ extents
     ++ SetDrawColorBuffers 1 ∷ ClearColorI 0 (record { r = negsuc 0; g = pos 2147483647; b = pos 0; a = pos 2 }) ∷ [])
     -- P4, request 1: [cleared float, empty, cleared Sint] and a cleared depth; seven empty places and a cleared one; the default renderbuffer at place 0
-    ∷ records emulated [] (pass (filled float 10 view.None black ∷ no_place ∷ filled sint 10 view.None black ∷ []) (half depth_alone 18 17))
+    ∷ records emulated [] (pass (filled float 10 None black ∷ no_place ∷ filled sint 10 None black ∷ []) (half depth_alone 18 17))
     (ResetFramebuffer false ∷ BindAttachment 36064 float None 1 ∷ BindAttachment 36066 sint None 1 ∷ BindAttachment 36096 depth_alone None 1 ∷ extents
     ++ SetDrawColorBuffers 3 ∷ cleared ∷ ClearColorI 2 (record { r = pos 0; g = pos 0; b = pos 0; a = pos 0 }) ∷ ClearDepth (of_bits binary32 0x3f00_0000) ∷ [])
-    ∷ records emulated [] (pass (replicate 7 no_place ++ filled sint 10 view.None black ∷ []) target.None)
+    ∷ records emulated [] (pass (replicate 7 no_place ++ filled sint 10 None black ∷ []) None)
     (ResetFramebuffer false ∷ BindAttachment 36071 sint None 1 ∷ extents ++ SetDrawColorBuffers 8 ∷ ClearColorI 7 (record { r = pos 0; g = pos 0; b = pos 0; a = pos 0 }) ∷ [])
-    ∷ records emulated [] (pass (filled default 10 view.None black ∷ no_place ∷ filled sint 10 view.None black ∷ []) target.None)
+    ∷ records emulated [] (pass (filled default 10 None black ∷ no_place ∷ filled sint 10 None black ∷ []) None)
     (ResetFramebuffer true ∷ extents
     ++ SetDrawColorBuffers 3
     ∷ ClearColorF 0 (record { r = of_bits binary32 0; g = of_bits binary32 0; b = of_bits binary32 0; a = of_bits binary32 0; is_srgb = true })
@@ -79,7 +75,7 @@ edges =
     ∷ refused 5 emulated (bare_pass ∷ []) (set_render_pipeline (pipeline 1 (by_vertex 8 ∷ []) (attribute 2 0 0 ∷ attribute 5 0 0 ∷ attribute 2 4 0 ∷ [])))
     -- ---- passes
     -- N6: an extent of 2,147,483,648 by 4,294,967,295
-    ∷ records emulated [] (begin_render_pass (pass_by 2147483648 4294967295 1 [] writes.None) no_label no_queries)
+    ∷ records emulated [] (begin_render_pass (pass_by 2147483648 4294967295 1 [] None) no_label no_queries)
     (ResetFramebuffer false
     ∷ SetScissor (rect (pos 0) (pos 0) (negsuc 2147483647) (negsuc 0))
     ∷ SetViewport (rect (pos 0) (pos 0) (negsuc 2147483647) (negsuc 0)) (record { start = of_bits binary32 0; end = of_bits binary32 0x3f80_0000 })
@@ -378,8 +374,8 @@ edges =
     (CopyQueryResults (record { start = 1024; end = 1024 }) 7 34962 0 ∷ [])
     ∷ refused 7 emulated (copy_query_results many_queries 0 1024 vertices 0 ∷ []) (copy_query_results two_queries 1 2 vertices 0)
     -- C1, T7: 65,536 bytes, none more, and one more
-    ∷ records emulated full_bytes (begin_compute_pass writes.None (labelled 0) no_queries) (PushDebugGroup (record { start = 65536; end = 65536 }) ∷ [])
-    ∷ refused 7 emulated full_bytes (begin_compute_pass writes.None (labelled 1) no_queries)
+    ∷ records emulated full_bytes (begin_compute_pass None (labelled 0) no_queries) (PushDebugGroup (record { start = 65536; end = 65536 }) ∷ [])
+    ∷ refused 7 emulated full_bytes (begin_compute_pass None (labelled 1) no_queries)
     -- ---- phases
     -- T1: a list begun twice, ended in a pass; a pass in a pass, a pass ended as the other kind
     ∷ refused 1 emulated [] begin_encoding

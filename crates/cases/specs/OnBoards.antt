@@ -1,7 +1,6 @@
 -- One worked list on three boards, by computation: each entry of a draw's view is seen with a value that is not its start. Its premises are proved, so the order theorem speaks of it. Assumes nothing.
-use Rattle.std.specs.Prelude.{ℕ, ◌≡◌, refl, Bool, true, false, List, [], ◌∷◌, map, Float, pos, take}
+use Rattle.std.specs.Prelude.{ℕ, ◌≡◌, refl, Bool, true, false, List, [], ◌∷◌, map, Float, pos, take, Option, None, Some}
 use Rattle.std.proofs.Common.{sym, ap, ◌∙◌, subst, arith}
-use Rattle.std.proofs.Math.Option.{Option, none, some}
 use Rattle.std.specs.Float.{binary32}
 use Rattle.std.specs.Float.Ieee.{of_bits}
 use Rattle.mask.specs.Mask.{test_bit, bit_at, set_bit, without, mask_of, places_from}
@@ -29,13 +28,8 @@ use Rattle.records.specs.declared.command.DepthBiasState.{DepthBiasState}
 use Rattle.records.specs.declared.command.DepthRange.{DepthRange}
 use Rattle.records.specs.declared.command.DepthState.{DepthState}
 use Rattle.records.specs.declared.command.ImageBinding.{ImageBinding}
-use Rattle.records.specs.declared.command.OptionBlend.TheVariants as blend
-use Rattle.records.specs.declared.command.OptionU32.{OptionU32}
-use Rattle.records.specs.declared.command.OptionU32.TheVariants.{None, Some}
 use Rattle.records.specs.declared.command.RectI32.{RectI32}
 use Rattle.records.specs.declared.command.VertexStepMode.TheVariants.{Vertex, Instance}
-use Rattle.records.specs.declared.pipeline.OptionDepthState.TheVariants as depth
-use Rattle.records.specs.declared.pipeline.OptionStencilState.TheVariants as stencil
 use Rattle.records.specs.declared.pipeline.PipelineInner.{PipelineInner}
 use Rattle.records.specs.declared.pipeline.PrivateCapabilities.{PrivateCapabilities}
 use Rattle.records.specs.declared.pipeline.RenderPipeline.{RenderPipeline}
@@ -72,7 +66,7 @@ abbrev side : ℕ → ℕ → StencilSide
 side function reference = record { function = function; mask_read = 15; mask_write = 240; reference = reference; ops = operations }
 
 abbrev target : ℕ → ColorTargetDesc
-target mask = record { mask = mask; blend = blend.None }
+target mask = record { mask = mask; blend = None }
 
 abbrev bias : DepthBiasState
 bias = record { constant = pos 2; slope_scale = 0x3f80_0000; clamp = 0 }
@@ -101,9 +95,9 @@ pipeline_by i =
       vertex_attribute_count = 2;
       color_targets = padded 8 (target 15) (target 7 ∷ target 3 ∷ []);
       color_target_count = 2;
-      depth = depth.Some (record { function = 513; mask = true });
+      depth = Some (record { function = 513; mask = true });
       depth_bias = bias;
-      stencil = stencil.Some (record { front = side 514 4; back = side 515 5 });
+      stencil = Some (record { front = side 514 4; back = side 515 5 });
       alpha_to_coverage_enabled = true;
     }
 
@@ -220,7 +214,7 @@ pub record Seen : Type 0 where
   pub storage : Option BufferRange
   pub texture : Option TextureBinding
   pub image : Option ImageBinding
-  pub samplers : List OptionU32
+  pub samplers : List (Option ℕ)
   pub index : Option ℕ
   pub viewport : Option Viewport
   pub scissor : Option RectI32
@@ -262,45 +256,45 @@ see v =
     }
 
 abbrev func : ℕ → ℕ → Option StencilFunc
-func function reference = some (record { function = function; reference = reference; read = 15 })
+func function reference = Some (record { function = function; reference = reference; read = 15 })
 
 -- the command, the program, the first byte of slot 1, the samplers of units 0 to 2, the index buffer, the references, the clip distances 0 to 3
-abbrev seen : Command → ℕ → ℕ → List OptionU32 → Option ℕ → ℕ → ℕ → List Bool → Seen
+abbrev seen : Command → ℕ → ℕ → List (Option ℕ) → Option ℕ → ℕ → ℕ → List Bool → Seen
 seen c program first samplers index front back clips =
     record {
       command = c;
-      program = some program;
+      program = Some program;
       fetches =
-          some (record { location = 0; format = floats; slot = 0; source = some (record { buffer = 7; stride = 12; step = Vertex; first = 100 }) })
-          ∷ some (record { location = 3; format = floats; slot = 1; source = some (record { buffer = 7; stride = 8; step = Instance; first = first }) })
+          Some (record { location = 0; format = floats; slot = 0; source = Some (record { buffer = 7; stride = 12; step = Vertex; first = 100 }) })
+          ∷ Some (record { location = 3; format = floats; slot = 1; source = Some (record { buffer = 7; stride = 8; step = Instance; first = first }) })
           ∷ [];
-      uniform = some (record { buffer = 5; offset = pos 320; size = pos 64 });
-      storage = some (record { buffer = 6; offset = pos 32; size = pos 16 });
-      texture = some (record { texture = 11; target = 3553; aspects = 1; mips = start_range });
-      image = some image;
+      uniform = Some (record { buffer = 5; offset = pos 320; size = pos 64 });
+      storage = Some (record { buffer = 6; offset = pos 32; size = pos 16 });
+      texture = Some (record { texture = 11; target = 3553; aspects = 1; mips = start_range });
+      image = Some image;
       samplers = samplers;
       index = index;
-      viewport = some (record { rect = rect (pos 1) (pos 2) (pos 3) (pos 4); depth = range });
-      scissor = some (rect (pos 1) (pos 0) (pos 2) (pos 3));
+      viewport = Some (record { rect = rect (pos 1) (pos 2) (pos 3) (pos 4); depth = range });
+      scissor = Some (rect (pos 1) (pos 0) (pos 2) (pos 3));
       blend = colour;
-      primitive = some (record { front_face = 2305; cull_face = 1029; unclipped_depth = true; polygon_mode = 6914 });
+      primitive = Some (record { front_face = 2305; cull_face = 1029; unclipped_depth = true; polygon_mode = 6914 });
       bias = bias;
       alpha = true;
       targets = target 7 ∷ target 3 ∷ [];
       clips = clips;
-      has_depth = some true;
-      has_stencil = some true;
-      depth = some (record { function = 513; mask = true });
-      stencil = some (record { front = func 514 front; back = func 515 back; front_ops = some (record { write = 240; ops = operations }); back_ops = some (record { write = 240; ops = operations }) });
+      has_depth = Some true;
+      has_stencil = Some true;
+      depth = Some (record { function = 513; mask = true });
+      stencil = Some (record { front = func 514 front; back = func 515 back; front_ops = Some (record { write = 240; ops = operations }); back_ops = Some (record { write = 240; ops = operations }) });
     }
 
 -- slot 1: attribute offset 4, buffer offset 16, and 8 for each working instance of the two draws that have one
 abbrev its_draws : ℕ → ℕ → List Seen
 its_draws fifth second =
-    seen (Draw 5 0 3 5 1 (Some 7)) 1 fifth (None ∷ None ∷ Some 33 ∷ []) none 4 5 (true ∷ true ∷ true ∷ false ∷ [])
-    ∷ seen (DrawIndexed 5 5123 3 44 (pos 0) 2 1 (Some 7)) 1 second (None ∷ None ∷ Some 33 ∷ []) (some 9) 6 6 (true ∷ true ∷ true ∷ false ∷ [])
-    ∷ seen (DrawIndexedIndirect 5 5123 8 40 (Some 7)) 2 20 (None ∷ Some 33 ∷ None ∷ []) (some 9) 4 5 (true ∷ false ∷ false ∷ false ∷ [])
-    ∷ seen (DrawIndexedIndirect 5 5123 8 60 (Some 7)) 2 20 (None ∷ Some 33 ∷ None ∷ []) (some 9) 4 5 (true ∷ false ∷ false ∷ false ∷ [])
+    seen (Draw 5 0 3 5 1 (Some 7)) 1 fifth (None ∷ None ∷ Some 33 ∷ []) None 4 5 (true ∷ true ∷ true ∷ false ∷ [])
+    ∷ seen (DrawIndexed 5 5123 3 44 (pos 0) 2 1 (Some 7)) 1 second (None ∷ None ∷ Some 33 ∷ []) (Some 9) 6 6 (true ∷ true ∷ true ∷ false ∷ [])
+    ∷ seen (DrawIndexedIndirect 5 5123 8 40 (Some 7)) 2 20 (None ∷ Some 33 ∷ None ∷ []) (Some 9) 4 5 (true ∷ false ∷ false ∷ false ∷ [])
+    ∷ seen (DrawIndexedIndirect 5 5123 8 60 (Some 7)) 2 20 (None ∷ Some 33 ∷ None ∷ []) (Some 9) 4 5 (true ∷ false ∷ false ∷ false ∷ [])
     ∷ []
 
 -- the book fed with these calls names them, by computation

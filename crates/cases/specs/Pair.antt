@@ -1,8 +1,7 @@
 -- Two different lists under `same-order`, by computation: another pass record, an earlier buffer in slot 0, another pipeline before, a refused call, and a pipeline that differs
 -- past a count and in its immediates; the same draw, and the same page at it. Assumes nothing.
-use Rattle.std.specs.Prelude.{ℕ, ◌≡◌, refl, Bool, true, false, cond, List, [], ◌∷◌, map, eqb, pos, length}
+use Rattle.std.specs.Prelude.{ℕ, ◌≡◌, refl, Bool, true, false, cond, List, [], ◌∷◌, map, eqb, pos, length, Option, None, Some}
 use Rattle.std.proofs.Common.{sym, ap, ◌∙◌, subst}
-use Rattle.std.proofs.Math.Option.{Option, none, some}
 use Rattle.std.specs.Float.{binary32}
 use Rattle.std.specs.Float.Ieee.{of_bits}
 use Rattle.mask.specs.Mask.{test_bit, bit_at, set_bit, without, mask_of, places_from}
@@ -15,8 +14,6 @@ use Rattle.records.specs.Check.{some?, bad_units, among, twice}
 use Rattle.records.specs.declared.command.BufferBinding.{BufferBinding}
 use Rattle.records.specs.declared.command.Command.{Command}
 use Rattle.records.specs.declared.command.DepthRange.{DepthRange}
-use Rattle.records.specs.declared.pass.OptionDepthStencil.TheVariants as target
-use Rattle.records.specs.declared.pass.OptionTimestampWrites.TheVariants as writes
 use Rattle.records.specs.declared.pass.RenderPassDescriptor.{RenderPassDescriptor}
 use Rattle.records.specs.declared.pipeline.RenderPipeline.{RenderPipeline}
 use Rattle.records.specs.declared.state.IndexFormat.TheVariants.{Uint32}
@@ -46,8 +43,8 @@ wide =
       sample_count = 1;
       color_attachments = padded 8 no_place [];
       color_attachment_count = 0;
-      depth_stencil_attachment = target.None;
-      timestamp_writes = writes.None;
+      depth_stencil_attachment = None;
+      timestamp_writes = None;
     }
 
 -- viewport and scissor of the narrow pass
@@ -139,13 +136,13 @@ unfolding note_calls
 same-calls = refl
 
 abbrev binding : ℕ → ℕ → Option BufferBinding
-binding raw offset = some (record { raw = raw; offset = offset })
+binding raw offset = Some (record { raw = raw; offset = offset })
 
 -- what slot 0 held before is gone
-rebound : (i : ℕ) → upd (λ k. none) 0 (binding 7 16) i ≡ upd (upd (λ k. none) 0 (binding 6 0)) 0 (binding 7 16) i
+rebound : (i : ℕ) → upd (λ k. None) 0 (binding 7 16) i ≡ upd (upd (λ k. None) 0 (binding 6 0)) 0 (binding 7 16) i
 rebound i = go (eqb i 0)
   where
-    go : (t : Bool) → cond t (binding 7 16) none ≡ cond t (binding 7 16) (cond t (binding 6 0) none)
+    go : (t : Bool) → cond t (binding 7 16) None ≡ cond t (binding 7 16) (cond t (binding 6 0) None)
     go true = refl
     go false = refl
 
@@ -154,15 +151,15 @@ unfolding note_calls clamp_to of_bits
 same-pages =
     λ j.
     record {
-      pipeline = some (trimmed (fetching 0));
-      reference = none;
+      pipeline = Some (trimmed (fetching 0));
+      reference = None;
       buffer = λ i. rebound i j;
-      index = none;
+      index = None;
       format = Uint32;
       offset = 0;
       bound = empty.bound;
-      viewport = some (record { rect = rect (pos 0) (pos 0) (pos 4) (pos 3); depth = whole_depth });
-      scissor = some (rect (pos 0) (pos 0) (pos 4) (pos 3));
+      viewport = Some (record { rect = rect (pos 0) (pos 0) (pos 4) (pos 3); depth = whole_depth });
+      scissor = Some (rect (pos 0) (pos 0) (pos 4) (pos 3));
       blend = empty.blend;
     }
     ∷ []

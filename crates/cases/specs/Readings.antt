@@ -1,5 +1,5 @@
 -- Readings of document 01 at its edges, each beside its neighbour, by computation (docs/DECISIONS.md, D3, D5, D8, D9). Assumes nothing.
-use Rattle.std.specs.Prelude.{ℕ, ◌^◌, ◌-◌, ◌≡◌, refl, Bool, true, false, List, [], ◌∷◌, ◌++◌, map, pos, replicate}
+use Rattle.std.specs.Prelude.{ℕ, ◌^◌, ◌-◌, ◌≡◌, refl, Bool, true, false, List, [], ◌∷◌, ◌++◌, map, pos, replicate, None}
 use Rattle.std.specs.Float.Ieee.{of_bits}
 use Rattle.mask.specs.Mask.{test_bit, bit_at, set_bit, without, mask_of, places_from}
 use Rattle.mask.specs.By.{mask_by}
@@ -12,8 +12,6 @@ use Rattle.records.specs.declared.binding.BufferBindingType.TheVariants.{Uniform
 use Rattle.records.specs.declared.binding.GroupShape.{GroupShape}
 use Rattle.records.specs.declared.binding.RawBinding.TheVariants as content
 use Rattle.records.specs.declared.command.Command.TheVariants.{BindBuffer, ResetFramebuffer, SetDrawColorBuffers}
-use Rattle.records.specs.declared.pass.OptionDepthStencil.TheVariants as target
-use Rattle.records.specs.declared.pass.OptionTimestampWrites.TheVariants as writes
 use Rattle.records.specs.declared.state.Phase.TheVariants.{Render}
 use Rattle.records.specs.declared.state.State.{State}
 use Rattle.slots.specs.Prepare.{buffer_commands, attribute_commands, sent_of}
@@ -36,10 +34,10 @@ abbrev label_of : Bool → ℕ → Label
 label_of present count = record { present = present; bytes = record { run = []; count = count } }
 
 abbrev rendering : Label → Call
-rendering label = begin_render_pass (pass_of 0 [] target.None) label no_queries
+rendering label = begin_render_pass (pass_of 0 [] None) label no_queries
 
 abbrev computing : Label → Call
-computing label = begin_compute_pass writes.None label no_queries
+computing label = begin_compute_pass None label no_queries
 
 -- one dynamic uniform buffer at slot 3, and so many of these offsets
 abbrev dynamic : List ℕ → ℕ → Call

@@ -1,7 +1,6 @@
 -- Where the list is the Rust's, worked out: even passes after one that is not, to which `as-rust` speaks, and two sessions that show that each half of its condition is needed. Assumes nothing.
-use Rattle.std.specs.Prelude.{ℕ, zero, suc, ◌<◌, ◌≡◌, refl, Bool, false, cond, List, [], ◌∷◌, ◌++◌, ltb, drop}
+use Rattle.std.specs.Prelude.{ℕ, zero, suc, ◌<◌, ◌≡◌, refl, Bool, false, cond, List, [], ◌∷◌, ◌++◌, ltb, drop, Option, None, Some}
 use Rattle.std.proofs.Common.{sym, ap, ◌∙◌, arith, le-ltb}
-use Rattle.std.proofs.Math.Option.{Option, none, some}
 use Rattle.mask.specs.Mask.{test_bit, bit_at, set_bit, without, mask_of, places_from}
 use Rattle.mask.specs.By.{mask_by}
 use Rattle.tables.specs.Tabulate.{tabulate}
@@ -53,20 +52,20 @@ alike = with A ++ draw_at 0 ∷ draw_at 5 ∷ set_render_pipeline C ∷ draw_at 
 abbrev its_fed : List Fed
 its_fed = fed emulated rooms uneven.state alike
 
-same-slots : (q : RenderPipeline) → some A ≡ some q → (i : ℕ) → i < 16 → known (describes C i) ≡ known (describes q i)
+same-slots : (q : RenderPipeline) → Some A ≡ Some q → (i : ℕ) → i < 16 → known (describes C i) ≡ known (describes q i)
 same-slots q e i l = at i ∙ ap (λ (x : RenderPipeline). known (describes x i)) (some_same A q e)
   where
-    some_same : (x y : RenderPipeline) → some x ≡ some y → x ≡ y
+    some_same : (x y : RenderPipeline) → Some x ≡ Some y → x ≡ y
     some_same x y e = cc
 
-    past : (i : ℕ) (t : Bool) (x y : Option VertexBufferDesc) → t ≡ false → known (cond t x none) ≡ known (cond t y none)
-    past i t x y e = ap (λ (b : Bool). known (cond b x none)) e ∙ sym (ap (λ (b : Bool). known (cond b y none)) e)
+    past : (i : ℕ) (t : Bool) (x y : Option VertexBufferDesc) → t ≡ false → known (cond t x None) ≡ known (cond t y None)
+    past i t x y e = ap (λ (b : Bool). known (cond b x None)) e ∙ sym (ap (λ (b : Bool). known (cond b y None)) e)
 
     at : (i : ℕ) → known (describes C i) ≡ known (describes A i)
     at zero = refl
     at (suc i) = past (suc i) (ltb (suc i) 1) _ _ (le-ltb (suc i) 1 (omega arith))
 
-its-even : Even emulated none its_fed
+its-even : Even emulated None its_fed
 unfolding Even record_calls fed outcome_of smallest some? bad_units among twice test_bit bit_at set_bit without mask_of places_from mask_by tabulate buffer_commands sampler_commands changed_units same_targets
     begin_render_commands attach_colors resolves_from invalidations clear_colors
 its-even =

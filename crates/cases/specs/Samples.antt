@@ -1,5 +1,5 @@
 -- Small values for the worked examples: boards, views, passes, pipelines, calls. Definitions only.
-use Rattle.std.specs.Prelude.{ℕ, Bool, true, false, List, [], ◌∷◌, ◌++◌, map, ℤ, pos, Float, length, drop, replicate}
+use Rattle.std.specs.Prelude.{ℕ, Bool, true, false, List, [], ◌∷◌, ◌++◌, map, ℤ, pos, Float, length, drop, replicate, Option, None, Some}
 use Rattle.std.specs.Float.{binary32}
 use Rattle.std.specs.Float.Ieee.{of_bits}
 use Rattle.names.specs.declared.wgt.FrontFace.{FrontFace}
@@ -20,7 +20,8 @@ use Rattle.records.specs.declared.command.AttributeDesc.{AttributeDesc}
 use Rattle.records.specs.declared.command.ColorTargetDesc.{ColorTargetDesc}
 use Rattle.records.specs.declared.command.DepthBiasState.{DepthBiasState}
 use Rattle.records.specs.declared.command.ImmediateDesc.{ImmediateDesc}
-use Rattle.records.specs.declared.command.OptionU32.TheVariants.{None, Some}
+use Rattle.records.specs.declared.pass.DepthStencilAttachment.{DepthStencilAttachment}
+use Rattle.names.specs.declared.gl.StencilState.{StencilState}
 use Rattle.records.specs.declared.command.RectI32.{RectI32}
 use Rattle.records.specs.declared.command.SampleKind.{SampleKind}
 use Rattle.records.specs.declared.command.TextureInner.{TextureInner}
@@ -31,16 +32,7 @@ use Rattle.records.specs.declared.command.VertexStepMode.{VertexStepMode}
 use Rattle.records.specs.declared.command.VertexStepMode.TheVariants.{Vertex, Instance}
 use Rattle.records.specs.declared.pass.ColorF64.{ColorF64}
 use Rattle.records.specs.declared.pass.ColorPlace.{ColorPlace}
-use Rattle.records.specs.declared.pass.OptionColorAttachment.TheVariants as place
-use Rattle.records.specs.declared.pass.OptionDepthStencil.{OptionDepthStencil}
-use Rattle.records.specs.declared.pass.OptionDepthStencil.TheVariants as target
-use Rattle.records.specs.declared.pass.OptionTimestampWrites.TheVariants as writes
-use Rattle.records.specs.declared.pass.OptionView.{OptionView}
 use Rattle.records.specs.declared.pass.RenderPassDescriptor.{RenderPassDescriptor}
-use Rattle.records.specs.declared.pipeline.OptionDepthState.TheVariants as depth
-use Rattle.records.specs.declared.pipeline.OptionStencilState.{OptionStencilState}
-use Rattle.records.specs.declared.pipeline.OptionStencilState.TheVariants as stencil
-use Rattle.records.specs.declared.pipeline.OptionVertexBufferDesc.TheVariants as layout
 use Rattle.records.specs.declared.pipeline.PipelineInner.{PipelineInner}
 use Rattle.records.specs.declared.pipeline.PrivateCapabilities.{PrivateCapabilities}
 use Rattle.records.specs.declared.pipeline.RenderPipeline.{RenderPipeline}
@@ -100,10 +92,10 @@ empty_label = record { present = true; bytes = lent [] }
 -- ---- pipelines
 -- a slot that is described, by vertex or by instance
 abbrev pub by_vertex : ℕ → VertexBufferLayout
-by_vertex stride = record { desc = layout.Some (record { step = Vertex; stride = stride }) }
+by_vertex stride = record { desc = Some (record { step = Vertex; stride = stride }) }
 
 abbrev pub by_instance : ℕ → VertexBufferLayout
-by_instance stride = record { desc = layout.Some (record { step = Instance; stride = stride }) }
+by_instance stride = record { desc = Some (record { step = Instance; stride = stride }) }
 
 -- four floats, and an attribute of that format
 abbrev pub floats : VertexFormatDesc
@@ -129,7 +121,7 @@ inner_of program units descs =
     }
 
 -- triangles, no targets, no depth; with these slots, attributes, stencil and front face
-abbrev pub pipeline_of : PipelineInner → List VertexBufferLayout → List AttributeDesc → OptionStencilState → FrontFace → RenderPipeline
+abbrev pub pipeline_of : PipelineInner → List VertexBufferLayout → List AttributeDesc → Option StencilState → FrontFace → RenderPipeline
 pipeline_of inner slots attributes s face =
     record {
       inner = inner;
@@ -141,7 +133,7 @@ pipeline_of inner slots attributes s face =
       vertex_attribute_count = length attributes;
       color_targets = padded 8 start_target [];
       color_target_count = 0;
-      depth = depth.None;
+      depth = None;
       depth_bias = start_depth_bias;
       stencil = s;
       alpha_to_coverage_enabled = false;
@@ -149,7 +141,7 @@ pipeline_of inner slots attributes s face =
 
 -- a pipeline of slots and attributes alone
 abbrev pub pipeline : ℕ → List VertexBufferLayout → List AttributeDesc → RenderPipeline
-pipeline program slots attributes = pipeline_of (inner_of program [] []) slots attributes stencil.None Ccw
+pipeline program slots attributes = pipeline_of (inner_of program [] []) slots attributes None Ccw
 
 -- a pipeline with a depth state, a depth bias and targets, and no slots
 abbrev pub fixed_of : DepthBiasState → List ColorTargetDesc → RenderPipeline
@@ -164,9 +156,9 @@ fixed_of bias targets =
       vertex_attribute_count = 0;
       color_targets = padded 8 start_target targets;
       color_target_count = length targets;
-      depth = depth.Some (record { function = 513; mask = true });
+      depth = Some (record { function = 513; mask = true });
       depth_bias = bias;
-      stencil = stencil.None;
+      stencil = None;
       alpha_to_coverage_enabled = false;
     }
 
@@ -208,12 +200,12 @@ viewed inner aspects kind srgb =
     }
 
 -- a colour place with its operations (2 clear, 8 store, 16 discard), its resolve view and its clear colour
-abbrev pub filled : TextureView → ℕ → OptionView → ColorF64 → ColorPlace
+abbrev pub filled : TextureView → ℕ → Option TextureView → ColorF64 → ColorPlace
 filled v ops resolve colour =
-    record { attachment = place.Some (record { view = v; depth_slice = None; resolve_target = resolve; ops = ops; clear_value = colour }) }
+    record { attachment = Some (record { view = v; depth_slice = None; resolve_target = resolve; ops = ops; clear_value = colour }) }
 
 -- 4 by 3, with that count of colour places
-abbrev pub pass_of : ℕ → List ColorPlace → OptionDepthStencil → RenderPassDescriptor
+abbrev pub pass_of : ℕ → List ColorPlace → Option DepthStencilAttachment → RenderPassDescriptor
 pass_of count places ds =
     record {
       extent = record { width = 4; height = 3; depth_or_array_layers = 1 };
@@ -221,17 +213,17 @@ pass_of count places ds =
       color_attachments = padded 8 no_place places;
       color_attachment_count = count;
       depth_stencil_attachment = ds;
-      timestamp_writes = writes.None;
+      timestamp_writes = None;
     }
 
 -- ---- calls
 -- an unlabelled pass without timestamps
-abbrev pub pass : List ColorPlace → OptionDepthStencil → Call
+abbrev pub pass : List ColorPlace → Option DepthStencilAttachment → Call
 pass places ds = begin_render_pass (pass_of (length places) places ds) no_label no_queries
 
 -- without attachments
 abbrev pub bare_pass : Call
-bare_pass = pass [] target.None
+bare_pass = pass [] None
 
 -- three vertices of one instance, first instance i
 abbrev pub draw_at : ℕ → Call

@@ -1,6 +1,5 @@
 -- Worked lists of calls, by computation: the order theorem is not empty, its second premise is needed, and so is "the first render pass". Assumes nothing.
-use Rattle.std.specs.Prelude.{ℕ, ◌≡◌, refl, true, false, List, [], ◌∷◌, ◌++◌, map, pos, take}
-use Rattle.std.proofs.Math.Option.{Option, none, some}
+use Rattle.std.specs.Prelude.{ℕ, ◌≡◌, refl, true, false, List, [], ◌∷◌, ◌++◌, map, pos, take, Option, None, Some}
 use Rattle.mask.specs.Mask.{test_bit, bit_at, set_bit, without, mask_of, places_from}
 use Rattle.mask.specs.By.{mask_by}
 use Rattle.tables.specs.Tabulate.{tabulate}
@@ -13,10 +12,7 @@ use Rattle.records.specs.declared.binding.BufferBindingType.TheVariants.{Uniform
 use Rattle.records.specs.declared.binding.RawBinding.TheVariants as content
 use Rattle.records.specs.declared.command.Command.{Command}
 use Rattle.records.specs.declared.command.Command.TheVariants.{DrawIndexed, DrawIndirect, SetIndexBuffer, ResetFramebuffer, SetDrawColorBuffers, SetViewport, SetScissor, ConfigureDepthStencil, SetVertexAttribute, SetProgram, SetPrimitive, BindBuffer, BindSampler, BindTexture}
-use Rattle.records.specs.declared.command.OptionU32.{OptionU32}
-use Rattle.records.specs.declared.command.OptionU32.TheVariants.{None, Some}
 use Rattle.records.specs.declared.command.VertexStepMode.TheVariants.{Vertex, Instance}
-use Rattle.records.specs.declared.pipeline.OptionStencilState.TheVariants as stencil
 use Rattle.records.specs.declared.pipeline.SamplerBind.{SamplerBind}
 use Rattle.records.specs.declared.pipeline.RenderPipeline.{RenderPipeline}
 use Rattle.records.specs.declared.state.IndexFormat.TheVariants.{Uint16}
@@ -56,7 +52,7 @@ named_by calls = named (entries emulated rooms start_state calls)
 -- two pipelines of the same slots, 0 by vertex and 1 by instance; unit 2 of the one and unit 1 of the other take sampler 5
 abbrev vertex_part : List SamplerBind → ℕ → RenderPipeline
 vertex_part units program =
-    pipeline_of (inner_of program units []) (by_vertex 12 ∷ by_instance 8 ∷ []) (attribute 0 0 0 ∷ attribute 3 4 1 ∷ []) stencil.None Ccw
+    pipeline_of (inner_of program units []) (by_vertex 12 ∷ by_instance 8 ∷ []) (attribute 0 0 0 ∷ attribute 3 4 1 ∷ []) None Ccw
 
 abbrev C : RenderPipeline
 C = vertex_part (no_bind ∷ no_bind ∷ takes 5 ∷ []) 1
@@ -136,7 +132,7 @@ pub record Shown : Type 0 where
   pub program : Option ℕ
   pub fetches : List (Option Fetch)
   pub range : Option BufferRange
-  pub samplers : List OptionU32
+  pub samplers : List (Option ℕ)
   pub index : Option ℕ
 
 abbrev show : View → Shown
@@ -144,16 +140,16 @@ show v =
     record { command = v.command; program = v.program; fetches = v.fetches; range = v.buffers 35345 3; samplers = take 3 v.samplers; index = v.index }
 
 -- slot 0 from byte 100, slot 1 from the given byte on
-abbrev shown : Command → ℕ → ℕ → List OptionU32 → Option ℕ → Shown
+abbrev shown : Command → ℕ → ℕ → List (Option ℕ) → Option ℕ → Shown
 shown c program first samplers index =
     record {
       command = c;
-      program = some program;
+      program = Some program;
       fetches =
-          some (record { location = 0; format = floats; slot = 0; source = some (record { buffer = 7; stride = 12; step = Vertex; first = 100 }) })
-          ∷ some (record { location = 3; format = floats; slot = 1; source = some (record { buffer = 7; stride = 8; step = Instance; first = first }) })
+          Some (record { location = 0; format = floats; slot = 0; source = Some (record { buffer = 7; stride = 12; step = Vertex; first = 100 }) })
+          ∷ Some (record { location = 3; format = floats; slot = 1; source = Some (record { buffer = 7; stride = 8; step = Instance; first = first }) })
           ∷ [];
-      range = some (record { buffer = 5; offset = pos 320; size = pos 64 });
+      range = Some (record { buffer = 5; offset = pos 320; size = pos 64 });
       samplers = samplers;
       index = index;
     }
@@ -161,11 +157,11 @@ shown c program first samplers index =
 -- attribute offset 4, buffer offset 16, working instance times 8
 abbrev its_draws : List Shown
 its_draws =
-    shown (drawn 5) 1 60 (None ∷ None ∷ Some 33 ∷ []) none
-    ∷ shown (drawn 5) 1 60 (None ∷ None ∷ Some 33 ∷ []) none
-    ∷ shown (DrawIndexed 4 5123 3 44 (pos 0) 2 1 None) 2 36 (None ∷ Some 33 ∷ None ∷ []) (some 9)
-    ∷ shown (DrawIndirect 4 8 0 None) 2 20 (None ∷ Some 33 ∷ None ∷ []) none
-    ∷ shown (DrawIndirect 4 8 16 None) 2 20 (None ∷ Some 33 ∷ None ∷ []) none
+    shown (drawn 5) 1 60 (None ∷ None ∷ Some 33 ∷ []) None
+    ∷ shown (drawn 5) 1 60 (None ∷ None ∷ Some 33 ∷ []) None
+    ∷ shown (DrawIndexed 4 5123 3 44 (pos 0) 2 1 None) 2 36 (None ∷ Some 33 ∷ None ∷ []) (Some 9)
+    ∷ shown (DrawIndirect 4 8 0 None) 2 20 (None ∷ Some 33 ∷ None ∷ []) None
+    ∷ shown (DrawIndirect 4 8 16 None) 2 20 (None ∷ Some 33 ∷ None ∷ []) None
     ∷ []
 
 -- what they find on the machine, and what the book names
@@ -217,7 +213,7 @@ mixed =
 
 -- the fetch of the attribute from the given byte on
 abbrev from : ℕ → Option Fetch
-from first = some (record { location = 0; format = floats; slot = 0; source = some (record { buffer = 7; stride = 8; step = Instance; first = first }) })
+from first = Some (record { location = 0; format = floats; slot = 0; source = Some (record { buffer = 7; stride = 8; step = Instance; first = first }) })
 
 abbrev fetches_of : List View → List (List (Option Fetch))
 fetches_of vs = map (λ (v : View). v.fetches) vs

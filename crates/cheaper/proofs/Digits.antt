@@ -111,36 +111,31 @@ put_next d n k v e s =
     next = omega arith
 
 -- one turn: the element that the next digit names goes behind d, and is taken out of what is left
-pub turn : (n m r b : ℕ) (out left left' d o : List ℕ) → m ≤ n → n ≤ 8 → 0 < m → r < factorial m → b ≡ factorial (m - 1)
-    → out ≡ d ++ replicate (8 - (n - m)) 0 → length d ≡ n - m → d ++ order_at m (take m left) r ≡ o → take (m - 1) left' ≡ removed (r / b) (take m left)
-    → (e : List ℕ) × (set out (n - m) (get_or left (r / b) 0) ≡ e ++ replicate (8 - (n - (m - 1))) 0) × (length e ≡ n - (m - 1)) × (e ++ order_at (m - 1) (take (m - 1) left') (r % b) ≡ o)
-turn n m r b out left left' d o h k p low eb eo ed whole removal = (d ++ (v ∷ []), written, length-append d (v ∷ []) ∙ longer (length d) n m ed p h, goes)
+pub turn : (n k m m' r b : ℕ) (out left left' d o : List ℕ) → n ≤ 8 → k + m ≡ n → suc m' ≡ m → r < factorial m → b ≡ factorial (m - 1)
+    → out ≡ d ++ replicate (8 - k) 0 → length d ≡ k → d ++ order_at m (take m left) r ≡ o → take (m - 1) left' ≡ removed (r / b) (take m left)
+    → (e : List ℕ) × (set out k (get_or left (r / b) 0) ≡ e ++ replicate (8 - (k + 1)) 0) × (length e ≡ k + 1) × (e ++ order_at m' (take m' left') (r % b) ≡ o)
+turn n k m m' r b out left left' d o h s more low eb eo ed whole removal = (d ++ (v ∷ []), written, length-append d (v ∷ []) ∙ ap (λ (i : ℕ). i + 1) ed, goes)
   where
     v : ℕ
     v = get_or left (r / b) 0
 
-    longer : (x n m : ℕ) → x ≡ n - m → 0 < m → m ≤ n → x + 1 ≡ n - (m - 1)
-    longer x n m e p h = omega arith
+    p : 0 < m
+    p = omega arith
 
-    written : set out (n - m) v ≡ (d ++ (v ∷ [])) ++ replicate (8 - (n - (m - 1))) 0
-    written =
-        ap (λ (l : List ℕ). set l (n - m) v) eo
-        ∙ put_next d (n - m) (8 - (n - m) - 1) v ed (fits n m h k p)
-        ∙ ap (λ (i : ℕ). (d ++ (v ∷ [])) ++ replicate (8 - i) 0) (one_more n m h p)
-      where
-        fits : (n m : ℕ) → m ≤ n → n ≤ 8 → 0 < m → n - m + suc (8 - (n - m) - 1) ≡ 8
-        fits n m h k p = omega arith
+    less : m - 1 ≡ m'
+    less = omega arith
 
-        one_more : (n m : ℕ) → m ≤ n → 0 < m → n - m + 1 ≡ n - (m - 1)
-        one_more n m h p = omega arith
+    written : set out k v ≡ (d ++ (v ∷ [])) ++ replicate (8 - (k + 1)) 0
+    written = ap (λ (l : List ℕ). set l k v) eo ∙ put_next d k (8 - k - 1) v ed (omega arith)
 
     digit : r / b < m
     digit = subst (λ (x : ℕ). r / x < m) (sym eb) (digit_low m r p low)
 
-    goes : (d ++ (v ∷ [])) ++ order_at (m - 1) (take (m - 1) left') (r % b) ≡ o
+    goes : (d ++ (v ∷ [])) ++ order_at m' (take m' left') (r % b) ≡ o
     goes =
-        append_assoc d (v ∷ []) (order_at (m - 1) (take (m - 1) left') (r % b))
+        subst (λ (i : ℕ). (d ++ (v ∷ [])) ++ order_at i (take i left') (r % b) ≡ o) less
+        (append_assoc d (v ∷ []) (order_at (m - 1) (take (m - 1) left') (r % b))
         ∙ ap₂ (λ (x : ℕ) (l : List ℕ). d ++ (x ∷ order_at (m - 1) l (r % b))) (sym (get_or-take m left (r / b) 0 digit)) removal
         ∙ ap (λ (x : ℕ). d ++ (get_or (take m left) (r / x) 0 ∷ order_at (m - 1) (removed (r / x) (take m left)) (r % x))) eb
         ∙ ap (λ (l : List ℕ). d ++ l) (sym (step m (take m left) r p))
-        ∙ whole
+        ∙ whole)

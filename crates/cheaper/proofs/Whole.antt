@@ -1,13 +1,17 @@
--- The search by the table is the search by the pieces. Assumes nothing.
-use Prim.Native.Nat.{ℕ, ◌+◌, ◌*◌, ◌/◌, ◌%◌, ◌≤◌, ◌<◌, min}
-use mathlib.Core.Path.{◌≡◌, ap, ◌∙◌}
-use mathlib.Core.List.{List}
+-- The search by the table is the search by the pieces; the things of the pieces in front are those at their places. Assumes nothing.
+use Prim.Native.Nat.{ℕ, zero, suc, ◌+◌, ◌-◌, ◌*◌, ◌/◌, ◌%◌, ◌≤◌, ◌<◌, min}
+use mathlib.Core.Path.{◌≡◌, refl, ap, ◌∙◌}
+use mathlib.Core.List.{List, ◌∷◌, map}
 use native.Mathlib.Omega.{arith}
-use lib.ListN.{get_or}
-use Rattle.cheaper.specs.Orders.{given, orders, factorial, In}
-use Rattle.cheaper.specs.Prices.{between, total, price_of, cheapest, tried, chosen}
+use lib.ListN.{length, get_or, take, drop}
+use lib.Seq.{drop-cons}
+use Rattle.cheaper.specs.Orders.{from, given, orders, factorial, In}
+use Rattle.cheaper.specs.Prices.{sum_to, between, total, price_of, distinct, floor_of, cheapest, tried, chosen}
 use Rattle.cheaper.specs.Budget.{cheapest-in, tried-in}
 use Rattle.cheaper.specs.Same.{all-order, total-same, cheapest-same}
+use Rattle.cheaper.specs.declared.pieces.Piece.{Piece}
+use Rattle.cheaper.specs.Board.{no_piece, value_in, things}
+use Rattle.cheaper.specs.Past.{sum_same}
 use Rattle.cheaper.specs.Search.{sought}
 use Rattle.cheaper.proofs.Totals.{all-tried}
 
@@ -28,3 +32,17 @@ module _ (v : ℕ → ℕ → ℕ) (table : List ℕ) (right : (k : ℕ) → k <
 
   pub chosen-in : (n budget : ℕ) → 0 < budget → In (chosen v n budget) (orders n)
   chosen-in n budget p = tried-in n budget (chosen v n budget) p (cheapest-in (price_of v) (given n) (tried n budget))
+
+-- the things of k pieces from place i on
+things-from : (ps : List Piece) (t i k : ℕ) → i + k ≤ length ps → things t (take k (drop i ps)) ≡ map (value_in ps t) (from i k)
+unfolding from
+things-from ps t i zero h = refl
+things-from ps t i (suc k) h =
+    ap (λ (l : List Piece). things t (take (suc k) l)) (drop-cons ps i no_piece (omega arith))
+    ∙ ap (λ (l : List ℕ). value_in ps t i ∷ l) (things-from ps t (suc i) k (omega arith))
+
+pub floor-is : (ps : List Piece) (n r : ℕ) → n ≤ length ps → r ≡ sum_to 18 (λ t. distinct (things t (take n ps)) - 1) → r ≡ floor_of (value_in ps) n
+floor-is ps n r h e =
+    e
+    ∙ sum_same 18 (λ t. distinct (things t (take n ps)) - 1) (λ t. distinct (map (value_in ps t) (given n)) - 1)
+    (λ t. ap (λ (l : List ℕ). distinct l - 1) (things-from ps t 0 n (omega arith)))

@@ -1,11 +1,12 @@
 -- What document 02, request 10, promises holds of the function's answer: `dictionary`, `promised`, `never-dearer`, `no_pieces`, `too_many`, `no-budget`, `number_is`.
 -- `past-count`: nothing past the count is looked at. Assumes nothing.
-use Rattle.std.specs.Prelude.{ℕ, zero, suc, ◌-◌, ◌≤◌, ◌<◌, ◌≡◌, refl, Bool, true, false, cond, List, [], ◌++◌, eqb, ltb, length, get_or, take, replicate}
+use Rattle.std.specs.Prelude.{ℕ, zero, suc, ◌-◌, ◌≤◌, ◌<◌, ◌≡◌, refl, Bool, true, false, cond, List, [], ◌++◌, eqb, ltb, length, get_or, take, replicate, Result, Ok, Err, IsOkAnd}
 use Rattle.std.proofs.Common.{sym, ap, ap₂, ◌∙◌, subst, subst₂, arith, get_or-take, lt-ltb, le-ltb, ne_eqb, ltb-true, ltb-false, eqb-true}
 use Rattle.std.proofs.Math.Seq.{take-nil, take-append_seam}
 use Rattle.std.proofs.lemmas.Bool.{eqb-false}
 use Rattle.cheaper.specs.declared.pieces.Piece.{Piece}
-use Rattle.cheaper.specs.declared.search.Outcome.TheVariants.{Done, TooManyPieces, NoBudget}
+use Rattle.cheaper.specs.declared.search.Refusal.{Refusal}
+use Rattle.cheaper.specs.declared.search.Refusal.TheVariants.{TooManyPieces, NoBudget}
 use Rattle.cheaper.specs.declared.search.Pieces.{Pieces}
 use Rattle.cheaper.specs.declared.search.Cheaper.{Cheaper}
 use Rattle.cheaper.specs.Orders.{Order, from, given, arranged, orders, factorial}
@@ -16,7 +17,7 @@ use Rattle.cheaper.specs.Places.{cheapest-first}
 use Rattle.cheaper.specs.Same.{order-places}
 use Rattle.cheaper.specs.Past.{floor-same, chosen-same, price-same}
 use Rattle.cheaper.specs.Board.{no_piece, thing_of, value_in}
-use Rattle.cheaper.specs.Answer.{number, away, found, answered}
+use Rattle.cheaper.specs.Answer.{number, found, answered}
 use Rattle.cheaper.specs.Claim.{Dictionary, costs, returned, First, Promised}
 use Rattle.cheaper.specs.Shuffles.{orders-only, orders-all}
 use Rattle.cheaper.specs.Dictionary.{orders-up}
@@ -34,24 +35,24 @@ dictionary n = (
   orders-long n,
 )
 
-pub is_found : (ps : Pieces) (budget : ℕ) → ps.count ≤ 8 → 0 < budget → answered ps budget ≡ found ps budget
+pub is_found : (ps : Pieces) (budget : ℕ) → ps.count ≤ 8 → 0 < budget → answered ps budget ≡ Ok (found ps budget)
 unfolding answered
 is_found ps budget h p = rw (le-ltb 8 ps.count h, ne_eqb budget 0 (λ e. omega arith))
 
 -- "13, more than 8 pieces; 14, a budget of 0; in that order"
-pub too_many : (ps : Pieces) (budget : ℕ) → 8 < ps.count → answered ps budget ≡ away TooManyPieces
+pub too_many : (ps : Pieces) (budget : ℕ) → 8 < ps.count → answered ps budget ≡ Err TooManyPieces
 unfolding answered
 too_many ps budget h = rw (lt-ltb 8 ps.count h)
 
-pub no-budget : (ps : Pieces) → ps.count ≤ 8 → answered ps 0 ≡ away NoBudget
+pub no-budget : (ps : Pieces) → ps.count ≤ 8 → answered ps 0 ≡ Err NoBudget
 unfolding answered
 no-budget ps h = rw (le-ltb 8 ps.count h)
 
-pub number_is : (ps : Pieces) (budget : ℕ) → number (answered ps budget).outcome ≡ cond (ltb 8 ps.count) 13 (cond (eqb budget 0) 14 0)
+pub number_is : (ps : Pieces) (budget : ℕ) → number (answered ps budget) ≡ cond (ltb 8 ps.count) 13 (cond (eqb budget 0) 14 0)
 unfolding answered
 number_is ps budget = go (ltb 8 ps.count) (eqb budget 0)
   where
-    go : (s t : Bool) → number (cond s (away TooManyPieces) (cond t (away NoBudget) (found ps budget))).outcome ≡ cond s 13 (cond t 14 0)
+    go : (s t : Bool) → number (cond s (Err TooManyPieces) (cond t (Err NoBudget) (Ok (found ps budget)))) ≡ cond s 13 (cond t 14 0)
     go true t = refl
     go false true = refl
     go false false = refl
@@ -89,29 +90,31 @@ module _ (ps : Pieces) (h : ps.count ≤ 8) where
       bounded : (a b c : ℕ) → c ≤ b → a - b ≤ a - c
       bounded a b c l = omega arith
 
-  pub promised : (budget : ℕ) → 0 < budget → Promised ps budget (answered ps budget)
-  promised budget p = subst (Promised ps budget) (sym (is_found ps budget h p)) (found-promised budget p)
+  pub promised : (budget : ℕ) → 0 < budget → IsOkAnd (answered ps budget) (Promised ps budget)
+  promised budget p =
+      subst (λ (x : Result Cheaper Refusal). IsOkAnd x (Promised ps budget)) (sym (is_found ps budget h p)) (found-promised budget p)
 
   -- "A larger budget never gives a dearer order"
-  pub never-dearer : (a b : ℕ) → 0 < a → a ≤ b → (answered ps b).price ≤ (answered ps a).price
+  pub never-dearer : (a b : ℕ) → 0 < a → a ≤ b → IsOkAnd (answered ps a) (λ r. IsOkAnd (answered ps b) (λ s. s.price ≤ r.price))
   never-dearer a b p l =
-      subst (λ (r : Cheaper). (answered ps b).price ≤ r.price) (sym (is_found ps a h p))
-      (subst (λ (r : Cheaper). r.price ≤ (found ps a).price) (sym (is_found ps b h (omega arith))) (larger-budget v n a b p l))
+      subst (λ (x : Result Cheaper Refusal). IsOkAnd x (λ r. IsOkAnd (answered ps b) (λ s. s.price ≤ r.price))) (sym (is_found ps a h p))
+      (subst (λ (y : Result Cheaper Refusal). IsOkAnd y (λ s. s.price ≤ (found ps a).price)) (sym (is_found ps b h (omega arith))) (larger-budget v n a b p l))
 
 -- r is what `cheaper_order` handed back, and s what it handed back for a larger budget
-pub handed : (ps : Pieces) (budget : ℕ) (r : Cheaper) → r ≡ answered ps budget → ps.count ≤ 8 → 0 < budget → Promised ps budget r
-handed ps budget r e h p = subst (Promised ps budget) (sym e) (promised ps h budget p)
+pub handed : (ps : Pieces) (budget : ℕ) (r : Result Cheaper Refusal) → r ≡ answered ps budget → ps.count ≤ 8 → 0 < budget → IsOkAnd r (Promised ps budget)
+handed ps budget r e h p = subst (λ (x : Result Cheaper Refusal). IsOkAnd x (Promised ps budget)) (sym e) (promised ps h budget p)
 
-pub handed-dearer : (ps : Pieces) (a b : ℕ) (r s : Cheaper) → r ≡ answered ps a → s ≡ answered ps b → ps.count ≤ 8 → 0 < a → a ≤ b → s.price ≤ r.price
-handed-dearer ps a b r s e f h p l = subst₂ (λ (x y : Cheaper). x.price ≤ y.price) (sym f) (sym e) (never-dearer ps h a b p l)
+pub handed-dearer : (ps : Pieces) (a b : ℕ) (r s : Result Cheaper Refusal) → r ≡ answered ps a → s ≡ answered ps b → ps.count ≤ 8 → 0 < a → a ≤ b
+    → IsOkAnd r (λ x. IsOkAnd s (λ y. y.price ≤ x.price))
+handed-dearer ps a b r s e f h p l =
+    subst₂ (λ (v w : Result Cheaper Refusal). IsOkAnd w (λ x. IsOkAnd v (λ y. y.price ≤ x.price))) (sym f) (sym e) (never-dearer ps h a b p l)
 
 -- "No pieces give price 0 and floor 0"
-pub no_pieces : (ps : Pieces) (budget : ℕ) → ps.count ≡ 0 → 0 < budget → ((answered ps budget).price ≡ 0) × ((answered ps budget).floor ≡ 0)
+pub no_pieces : (ps : Pieces) (budget : ℕ) → ps.count ≡ 0 → 0 < budget → IsOkAnd (answered ps budget) (λ r. (r.price ≡ 0) × (r.floor ≡ 0))
 unfolding sum_to distinct from arranged cheapest
-no_pieces ps budget e p = (
-  ap (λ (r : Cheaper). r.price) (is_found ps budget (omega arith) p) ∙ ap (λ (n : ℕ). costs ps (chosen (value_in ps.pieces) n budget)) e ∙ none budget p,
-  ap (λ (r : Cheaper). r.floor) (is_found ps budget (omega arith) p) ∙ ap (floor_of (value_in ps.pieces)) e ∙ nothing,
-)
+no_pieces ps budget e p =
+    subst (λ (x : Result Cheaper Refusal). IsOkAnd x (λ r. (r.price ≡ 0) × (r.floor ≡ 0))) (sym (is_found ps budget (omega arith) p))
+    (ap (λ (n : ℕ). costs ps (chosen (value_in ps.pieces) n budget)) e ∙ none budget p, ap (floor_of (value_in ps.pieces)) e ∙ nothing)
   where
     none : (b : ℕ) → 0 < b → costs ps (chosen (value_in ps.pieces) 0 b) ≡ 0
     none zero p = absurd (omega arith)
@@ -128,7 +131,7 @@ module _ (ps qs : Pieces) (same : ps.count ≡ qs.count) (agree : take ps.count 
       (sym (get_or-take ps.count ps.pieces a no_piece h) ∙ ap (λ (l : List Piece). get_or l a no_piece) agree ∙ get_or-take ps.count qs.pieces a no_piece h)
 
   abbrev made : List ℕ → ℕ → ℕ → ℕ → Cheaper
-  made o n price floor = record { outcome = Done; order = o ++ replicate (8 - n) 0; price = price; floor = floor }
+  made o n price floor = record { order = o ++ replicate (8 - n) 0; price = price; floor = floor }
 
   found-same : (budget : ℕ) → 0 < budget → found ps budget ≡ found qs budget
   found-same budget p =
@@ -153,7 +156,7 @@ module _ (ps qs : Pieces) (same : ps.count ≡ qs.count) (agree : take ps.count 
       go false e false q =
           let l = ltb-false 8 ps.count e in
           let p = above budget (eqb-false budget 0 q) in
-          is_found ps budget l p ∙ found-same budget p ∙ sym (is_found qs budget (subst (λ (k : ℕ). k ≤ 8) same l) p)
+          is_found ps budget l p ∙ ap {B = Result Cheaper Refusal} Ok (found-same budget p) ∙ sym (is_found qs budget (subst (λ (k : ℕ). k ≤ 8) same l) p)
         where
           above : (b : ℕ) → (b ≡ 0 → ⊥) → 0 < b
           above b ne = omega arith

@@ -9,7 +9,7 @@ use Rattle.cheaper.specs.Prices.{sum_to, differs, between, price_of, distinct, f
 use Rattle.cheaper.specs.Same.{all-order, total-same, cheapest-same}
 use Rattle.cheaper.specs.Budget.{tried-in}
 
-sum_same : (n : ℕ) (f g : ℕ → ℕ) → ((t : ℕ) → f t ≡ g t) → sum_to n f ≡ sum_to n g
+pub sum_same : (n : ℕ) (f g : ℕ → ℕ) → ((t : ℕ) → f t ≡ g t) → sum_to n f ≡ sum_to n g
 unfolding sum_to
 sum_same zero f g h = refl
 sum_same (suc n) f g h = ap₂ (λ (x y : ℕ). x + y) (sum_same n f g h) (h n)

@@ -22,11 +22,7 @@ fn remove(left: [u32; MAX_PIECES], m: usize, j: usize) -> [u32; MAX_PIECES]
     ensures { take (m - 1) result ≡ removed j (take m left) }
 {
     let mut r = left;
-    let mut k = j + 1;
-    while k < m {
-        r[k - 1] = left[k];
-        k = k + 1;
-    }
+    r.copy_within(j + 1..m, j);
     r
 }
 
@@ -38,14 +34,13 @@ pub(crate) fn order_at(n: usize, i: u32) -> [u32; MAX_PIECES]
     let mut out = [0u32; MAX_PIECES];
     let mut left: [u32; MAX_PIECES] = [0, 1, 2, 3, 4, 5, 6, 7];
     let mut rest = i;
-    let mut m = n;
-    while 0 < m {
+    for k in 0..n {
+        let m = n - k;
         let block = orders_of(m - 1);
         let j = (rest / block) as usize;
-        out[n - m] = left[j];
+        out[k] = left[j];
         left = remove(left, m, j);
-        rest = rest % block;
-        m = m - 1;
+        rest %= block;
     }
     out
 }

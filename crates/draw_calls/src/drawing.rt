@@ -1,23 +1,17 @@
 // The plan of a draw: its slots prepared, its conditions, its place in the list, what it changes.
-ghost use Rattle.std.specs.Prelude.{◌≡◌, cond, false as no};
+ghost use Rattle.std.specs.Prelude.{◌≡◌, false as no};
 ghost use Rattle.records.specs.Check.{broken_limits};
 ghost use Rattle.draw_calls.specs.Drawn.{own_commands, own_over, DrawOf};
 ghost use Rattle.calls.specs.Step.{drawing};
 
 use crate::drawn::{DrawPlan, Drawn, Own, own_count};
-use calls::judge::{commands_only, judge, list_rooms, spot_of};
-use calls::phase::in_render;
+use calls::judge::{commands_only, judge, list_rooms, spot_of, taken};
+use calls::phase::{in_phase, in_render};
 use records::check::Broken;
 use records::outcome::Conditions;
 use records::pipeline::PrivateCapabilities;
 use records::state::State;
 use slots::prepare::{prepare, remembered};
-
-fn pick(ok: bool, new: u32, old: u32) -> u32
-    ensures { result ≡ cond ok new old }
-{
-    if ok { new } else { old }
-}
 
 // A draw whose slots are moved on by instance w, in a state that breaks the limits `broken`.
 // `absent` and `over` are conditions 4 and 6 of its own commands.
@@ -41,20 +35,16 @@ pub(crate) fn plan_drawing(
     let rooms = list_rooms(room);
     let more = commands_only(n);
     let c = Conditions {
-        phase: !in_render(phase),
-        many: false,
-        range: false,
         absent,
-        kind: false,
         sum: ready.over | over,
-        room: false,
+        ..in_phase(in_render(phase))
     };
     let v = judge(rooms, broken, p, c, phase, more);
     let place = spot_of(v.ok, p.commands, n);
     let progress = v.progress;
     let outcome = v.outcome;
-    let dirty = pick(v.ok, ready.dirty, vertex.dirty_vbuf_mask);
-    let bound = pick(v.ok, ready.cleared, 0);
+    let dirty = taken(v.ok, ready.dirty, vertex.dirty_vbuf_mask);
+    let bound = taken(v.ok, ready.cleared, 0);
     let old = vertex.instances;
     let instances = remembered(old, bound, w);
     DrawPlan {

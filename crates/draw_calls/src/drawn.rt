@@ -1,14 +1,15 @@
-// Draws: the slots that are prepared, and then the draw's own commands; the plan, and how it is
-// written into the list. The contracts cite specs/Drawn.antt.
+// Draws: the slots that are prepared, and then the draw's own commands; the plan and its batch. The
+// contracts cite specs/Drawn.antt.
 ghost use Rattle.std.specs.Prelude.{ℕ, ◌+◌, ◌*◌, ◌^◌, ◌<◌, ◌≤◌, ◌≡◌, false, length};
 ghost use Rattle.walks.specs.Fill.{filled};
-ghost use Rattle.slots.specs.Place.{Stands};
 ghost use Rattle.calls.specs.Did.{record_of};
+ghost use Rattle.slots.specs.Place.{Stands};
 ghost use Rattle.draw_calls.specs.Drawn.{own_commands, own_over, DrawAllowed, drawn_at, draw_answer};
 ghost use Rattle.slots.specs.Vertex.{stepped as stepped_of};
 
+use calls::batch::{Batch, record};
 use calls::parts::{with_progress, with_vertex};
-use records::command::{Command, OptionU32, Record};
+use records::command::{Command, Record};
 use records::limits::MAX_VERTEX_BUFFERS;
 use records::outcome::Outcome;
 use records::pipeline::PrivateCapabilities;
@@ -23,7 +24,7 @@ pub enum Own {
         topology: u32,
         raw: u32,
         offset: u64,
-        location: OptionU32,
+        location: Option<u32>,
         count: u32,
     },
     IndexedIndirect {
@@ -31,7 +32,7 @@ pub enum Own {
         index_type: u32,
         raw: u32,
         offset: u64,
-        location: OptionU32,
+        location: Option<u32>,
         count: u32,
     },
 }
@@ -132,49 +133,34 @@ fn own_command(own: Own, k: usize) -> Command
     }
 }
 
-pub fn drawn_command(batch: Drawn, i: usize) -> Command
-    requires { DrawAllowed batch i }
-    ensures { result ≡ drawn_at batch i }
-{
-    let caps = batch.caps;
-    let vertex = batch.vertex;
-    let own = batch.own;
-    let first = batch.first as usize;
-    if i < first {
-        command_at(caps, vertex, batch.instance, batch.places, i as u32)
-    } else {
-        own_command(own, i - first)
+impl Batch for Drawn {
+    ghost place_of = { λ b. b.at };
+
+    ghost count_of = { λ b. b.n };
+
+    ghost Allowed = { DrawAllowed };
+
+    ghost command_at = { drawn_at };
+
+    fn at(&self) -> usize {
+        self.at
     }
-}
 
-fn fill_drawn(list: &mut [Record], at: usize, n: usize, batch: Drawn)
-    requires { (at + n ≤ length list.old) × ((i : ℕ) → i < n → DrawAllowed batch i) }
-    ensures { list.new ≡ filled (λ i. record_of (drawn_at batch i)) list.old at n }
-{
-    let mut i: usize = 0;
-    while i < n {
-        let c = drawn_command(batch, i);
-        list[at + i] = Record { command: c };
-        i += 1;
+    fn count(&self) -> usize {
+        self.n
     }
-}
 
-fn drawn_batch(plan: DrawPlan) -> Drawn
-    ensures { result ≡ plan.batch }
-{
-    plan.batch
-}
-
-fn drawn_at(batch: Drawn) -> usize
-    ensures { result ≡ batch.at }
-{
-    batch.at
-}
-
-fn drawn_count(batch: Drawn) -> usize
-    ensures { result ≡ batch.n }
-{
-    batch.n
+    fn command(&self, i: usize) -> Command {
+        let caps = self.caps;
+        let vertex = self.vertex;
+        let own = self.own;
+        let first = self.first as usize;
+        if i < first {
+            command_at(caps, vertex, self.instance, self.places, i as u32)
+        } else {
+            own_command(own, i - first)
+        }
+    }
 }
 
 // The vertex part with this dirty mask and these instances.
@@ -200,12 +186,11 @@ pub fn draw_answer(plan: DrawPlan, s: State) -> Answer
     Answer { outcome, state }
 }
 
+// The plan by value: where its batch is lent the plan stays in memory, and a draw that sets an instance
+// takes 1.8 times as long (docs/BENCHMARKS.md).
 pub(crate) fn record_drawn(list: &mut [Record], plan: DrawPlan)
     requires { (plan.batch.at + plan.batch.n ≤ length list.old) × ((i : ℕ) → i < plan.batch.n → DrawAllowed plan.batch i) }
     ensures { list.new ≡ filled (λ i. record_of (drawn_at plan.batch i)) list.old plan.batch.at plan.batch.n }
 {
-    let batch = drawn_batch(plan);
-    let at = drawn_at(batch);
-    let n = drawn_count(batch);
-    fill_drawn(list, at, n, batch);
+    record(list, &plan.batch);
 }

@@ -1,5 +1,5 @@
 // The four draw calls. The contracts cite specs/Step.antt and Did.antt.
-ghost use Rattle.std.specs.Prelude.{◌+◌, ◌*◌, ◌^◌, ◌<◌, ◌≡◌};
+ghost use Rattle.std.specs.Prelude.{◌^◌, ◌<◌, ◌≡◌};
 ghost use Rattle.calls.specs.Call.{draw as draw_of, draw_indexed, draw_indirect, draw_indexed_indirect};
 ghost use Rattle.calls.specs.Did.{Lists};
 ghost use Rattle.draw_calls.specs.Drawn.{DrawOf};
@@ -15,6 +15,8 @@ use records::pipeline::PrivateCapabilities;
 use records::state::{Answer, DrawState, IndexFormat, State};
 use slots::working;
 
+// List, board and state are parameters of each call (state by value, the list lent): a struct would
+// ask callers for another type.
 pub fn plan_draw(
     room: usize,
     caps: PrivateCapabilities,

@@ -2,11 +2,12 @@
 // line says is read from left to right into the arguments of a call.
 #![tactic(auto)]
 
-pub mod cursor;
+pub mod call;
 mod fixed;
 pub mod group;
 mod inner;
 mod layout;
+pub mod line;
 pub mod lines;
 pub mod pass;
 pub mod pipeline;

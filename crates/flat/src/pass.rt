@@ -1,192 +1,109 @@
 // The arguments of the pass beginnings.
-ghost use Rattle.std.specs.Prelude.{◌≤◌, length};
+ghost use Rattle.std.specs.Prelude.{◌≤◌, length, IfOk, IfSome};
 
-use crate::cursor::{Cursor, take_bool, take_u32};
-use crate::place::{take_depth_stencil, take_places};
+use crate::line::{Line, Wrong};
+use crate::place::{take_depth_stencil, take_place};
 use crate::runs::{take_bytes, take_set};
-use crate::small::take_option;
 use records::command::Extent3d;
-use records::pass::{OptionTimestampWrites, RenderPassDescriptor, TimestampWrites};
+use records::limits::MAX_COLOR_ATTACHMENTS;
+use records::pass::{ColorPlace, RenderPassDescriptor, TimestampWrites};
 
+// The label's length, where there is one: one of no bytes is present. The queries of the timestamps'
+// set go into the run; its target is read and dropped.
 #[derive(Clone, Copy)]
-pub struct TakenLabel {
-    pub present: bool,
-    pub count: usize,
-    pub next: Cursor,
+pub struct ComputePassArgs {
+    pub label: Option<usize>,
+    pub timestamp_writes: Option<TimestampWrites>,
+    pub set_count: usize,
 }
 
-// A label into the run; one of no bytes is present.
-pub(crate) fn take_label(line: &[u8], c: Cursor, out: &mut [u8]) -> TakenLabel
-    ensures { result.count ≤ length out.old }
+#[derive(Clone, Copy)]
+pub struct RenderPassArgs {
+    pub desc: RenderPassDescriptor,
+    pub label: Option<usize>,
+    pub set_count: usize,
+}
+
+// A label into the run.
+pub fn take_label(line: &mut Line, out: &mut [u8]) -> Result<Option<usize>, Wrong>
+    ensures { IfOk result (λ label. IfSome label (λ n. n ≤ length out.old)) }
 {
-    let some = take_bool(line, c);
-    let after = some.next;
-    if some.value {
-        let t = take_bytes(line, after, out);
-        let next = t.next;
-        return TakenLabel {
-            present: true,
-            count: t.count,
-            next,
-        };
+    if line.take_bool()? {
+        return Ok(Some(take_bytes(line, out)?));
     }
-    TakenLabel {
-        present: false,
-        count: 0,
-        next: after,
-    }
+    Ok(None)
 }
 
-#[derive(Clone, Copy)]
-struct TakenWrites {
-    value: TimestampWrites,
-    next: Cursor,
-}
-
-fn take_writes(line: &[u8], c: Cursor) -> TakenWrites {
-    let beginning = take_option(line, c);
-    let at_end = beginning.next;
-    let end = take_option(line, at_end);
-    let next = end.next;
-    let beginning_of_pass_write_index = beginning.value;
-    let end_of_pass_write_index = end.value;
-    let value = TimestampWrites {
+fn take_writes(line: &mut Line) -> Result<TimestampWrites, Wrong> {
+    let beginning_of_pass_write_index = line.take_option(|l| l.take_u32())?;
+    let end_of_pass_write_index = line.take_option(|l| l.take_u32())?;
+    Ok(TimestampWrites {
         beginning_of_pass_write_index,
         end_of_pass_write_index,
-    };
-    TakenWrites { value, next }
-}
-
-#[derive(Clone, Copy)]
-pub struct TakenTimestamps {
-    pub writes: OptionTimestampWrites,
-    pub count: usize,
-    pub next: Cursor,
-}
-
-// The set's queries go into the run; its target is read and dropped.
-pub(crate) fn take_timestamps(line: &[u8], c: Cursor, set: &mut [u32]) -> TakenTimestamps
-    ensures { result.count ≤ length set.old }
-{
-    let some = take_bool(line, c);
-    let after = some.next;
-    if some.value {
-        let queries = take_set(line, after, set);
-        let at_writes = queries.next;
-        let t = take_writes(line, at_writes);
-        let writes = t.value;
-        let next = t.next;
-        return TakenTimestamps {
-            writes: OptionTimestampWrites::Some(writes),
-            count: queries.count,
-            next,
-        };
-    }
-    TakenTimestamps {
-        writes: OptionTimestampWrites::None,
-        count: 0,
-        next: after,
-    }
-}
-
-#[derive(Clone, Copy)]
-struct TakenExtent {
-    value: Extent3d,
-    next: Cursor,
-}
-
-fn take_extent(line: &[u8], c: Cursor) -> TakenExtent {
-    let width = take_u32(line, c);
-    let at_height = width.next;
-    let height = take_u32(line, at_height);
-    let at_depth = height.next;
-    let depth = take_u32(line, at_depth);
-    let next = depth.next;
-    let value = Extent3d {
-        width: width.value,
-        height: height.value,
-        depth_or_array_layers: depth.value,
-    };
-    TakenExtent { value, next }
-}
-
-#[derive(Clone, Copy)]
-pub struct TakenRenderPass {
-    pub value: RenderPassDescriptor,
-    pub has_label: bool,
-    pub label_count: usize,
-    pub set_count: usize,
-    pub next: Cursor,
-}
-
-pub fn take_render_pass(
-    line: &[u8],
-    c: Cursor,
-    label: &mut [u8],
-    set: &mut [u32],
-) -> TakenRenderPass
-    ensures label_count_bound { result.label_count ≤ length label.old }
-    ensures set_count_bound { result.set_count ≤ length set.old }
-{
-    let size = take_extent(line, c);
-    let at_samples = size.next;
-    let samples = take_u32(line, at_samples);
-    let at_label = samples.next;
-    let pass = take_compute_pass(line, at_label, label, set);
-    let at_places = pass.next;
-    let places = take_places(line, at_places);
-    let at_depth = places.next;
-    let depth = take_depth_stencil(line, at_depth);
-    let next = depth.next;
-    let extent = size.value;
-    let color_attachments = places.all;
-    let depth_stencil_attachment = depth.value;
-    let timestamp_writes = pass.writes;
-    let value = RenderPassDescriptor {
-        extent,
-        sample_count: samples.value,
-        color_attachments,
-        color_attachment_count: places.count,
-        depth_stencil_attachment,
-        timestamp_writes,
-    };
-    TakenRenderPass {
-        value,
-        has_label: pass.has_label,
-        label_count: pass.label_count,
-        set_count: pass.set_count,
-        next,
-    }
-}
-
-#[derive(Clone, Copy)]
-pub struct TakenComputePass {
-    pub writes: OptionTimestampWrites,
-    pub has_label: bool,
-    pub label_count: usize,
-    pub set_count: usize,
-    pub next: Cursor,
+    })
 }
 
 pub fn take_compute_pass(
-    line: &[u8],
-    c: Cursor,
+    line: &mut Line,
     label: &mut [u8],
     set: &mut [u32],
-) -> TakenComputePass
-    ensures label_count_bound { result.label_count ≤ length label.old }
-    ensures set_count_bound { result.set_count ≤ length set.old }
+) -> Result<ComputePassArgs, Wrong>
+    ensures label_bound { IfOk result (λ a. IfSome a.label (λ n. n ≤ length label.old)) }
+    ensures set_count_bound { IfOk result (λ a. a.set_count ≤ length set.old) }
 {
-    let text = take_label(line, c, label);
-    let at_writes = text.next;
-    let stamps = take_timestamps(line, at_writes, set);
-    let next = stamps.next;
-    let writes = stamps.writes;
-    TakenComputePass {
-        writes,
-        has_label: text.present,
-        label_count: text.count,
-        set_count: stamps.count,
-        next,
+    let label = take_label(line, label)?;
+    if line.take_bool()? {
+        let set_count = take_set(line, set)?.count;
+        let timestamp_writes = Some(take_writes(line)?);
+        return Ok(ComputePassArgs {
+            label,
+            timestamp_writes,
+            set_count,
+        });
     }
+    Ok(ComputePassArgs {
+        label,
+        timestamp_writes: None,
+        set_count: 0,
+    })
+}
+
+fn take_extent(line: &mut Line) -> Result<Extent3d, Wrong> {
+    let width = line.take_u32()?;
+    let height = line.take_u32()?;
+    let depth_or_array_layers = line.take_u32()?;
+    Ok(Extent3d {
+        width,
+        height,
+        depth_or_array_layers,
+    })
+}
+
+pub fn take_render_pass(
+    line: &mut Line,
+    label: &mut [u8],
+    set: &mut [u32],
+) -> Result<RenderPassArgs, Wrong>
+    ensures label_bound { IfOk result (λ a. IfSome a.label (λ n. n ≤ length label.old)) }
+    ensures set_count_bound { IfOk result (λ a. a.set_count ≤ length set.old) }
+{
+    let extent = take_extent(line)?;
+    let sample_count = line.take_u32()?;
+    let pass = take_compute_pass(line, label, set)?;
+    let mut color_attachments = [ColorPlace { attachment: None }; MAX_COLOR_ATTACHMENTS];
+    let color_attachment_count = line.take_list(&mut color_attachments, take_place)?;
+    let depth_stencil_attachment = line.take_option(take_depth_stencil)?;
+    let desc = RenderPassDescriptor {
+        extent,
+        sample_count,
+        color_attachments,
+        color_attachment_count,
+        depth_stencil_attachment,
+        timestamp_writes: pass.timestamp_writes,
+    };
+    Ok(RenderPassArgs {
+        desc,
+        label: pass.label,
+        set_count: pass.set_count,
+    })
 }

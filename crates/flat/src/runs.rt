@@ -1,157 +1,94 @@
 // Lists of numbers, read into a lent run; a list that the run has no room for is wrong.
-ghost use Rattle.std.specs.Prelude.{◌*◌, ◌≤◌, length};
+ghost use Rattle.std.specs.Prelude.{◌*◌, ◌≤◌, length, IfOk};
 
-use crate::cursor::{Cursor, take, take_count, take_u32};
-use crate::small::{take_buffer, take_u16, take_u64};
+use crate::line::{Line, Wrong};
+use crate::small::take_buffer;
 
-// How many elements were read, each of as many numbers as the list's elements have.
-#[derive(Clone, Copy)]
-pub struct TakenRun {
-    pub count: usize,
-    pub next: Cursor,
-}
-
-pub fn take_numbers(line: &[u8], c: Cursor, out: &mut [u32]) -> TakenRun
-    ensures { result.count ≤ length out.old }
+fn take_run<'a, T, F: FnMut(&mut Line<'a>) -> Result<T, Wrong>>(
+    line: &mut Line<'a>,
+    out: &mut [T],
+    mut take: F,
+) -> Result<usize, Wrong>
+where
+    T: Drop,
+    requires { F.IsAlwaysCallable take }
+    ensures { IfOk result (λ n. n ≤ length out.old) }
 {
-    let t = take_count(line, c, out.len());
-    let n = t.value;
-    let mut next = t.next;
-    let mut i: usize = 0;
-    while i < n {
-        let u = take_u32(line, next);
-        out[i] = u.value;
-        let after = u.next;
-        next = after;
-        i += 1;
+    let n = line.take_count(out.len())?;
+    for element in &mut out[..n] {
+        *element = take(line)?;
     }
-    TakenRun { count: n, next }
+    Ok(n)
 }
 
-pub(crate) fn take_bytes(line: &[u8], c: Cursor, out: &mut [u8]) -> TakenRun
-    ensures { result.count ≤ length out.old }
+pub fn take_numbers(line: &mut Line, out: &mut [u32]) -> Result<usize, Wrong>
+    ensures { IfOk result (λ n. n ≤ length out.old) }
 {
-    let t = take_count(line, c, out.len());
-    let n = t.value;
-    let mut next = t.next;
-    let mut i: usize = 0;
-    while i < n {
-        let u = take(line, next, 255);
-        out[i] = u.value as u8;
-        let after = u.next;
-        next = after;
-        i += 1;
-    }
-    TakenRun { count: n, next }
+    take_run(line, out, |l| l.take_u32())
 }
 
-#[derive(Clone, Copy)]
-struct TakenBarrier {
-    raw: u32,
-    from: u32,
-    to: u32,
-    next: Cursor,
-}
-
-fn take_barrier(line: &[u8], c: Cursor) -> TakenBarrier {
-    let b = take_buffer(line, c);
-    let buffer = b.value;
-    let at_from = b.next;
-    let from = take_u16(line, at_from);
-    let at_to = from.next;
-    let to = take_u16(line, at_to);
-    let next = to.next;
-    TakenBarrier {
-        raw: buffer.raw,
-        from: from.value,
-        to: to.value,
-        next,
-    }
-}
-
-// Three numbers for each barrier: the buffer's, and its uses before and after.
-pub fn take_barriers(line: &[u8], c: Cursor, out: &mut [u32]) -> TakenRun
-    ensures { 3 * result.count ≤ length out.old }
+pub(crate) fn take_bytes(line: &mut Line, out: &mut [u8]) -> Result<usize, Wrong>
+    ensures { IfOk result (λ n. n ≤ length out.old) }
 {
-    let t = take_count(line, c, out.len() / 3);
-    let n = t.value;
-    let mut next = t.next;
-    let mut i: usize = 0;
-    while i < n {
-        let b = take_barrier(line, next);
-        out[3 * i] = b.raw;
-        out[3 * i + 1] = b.from;
-        out[3 * i + 2] = b.to;
-        let after = b.next;
-        next = after;
-        i += 1;
+    take_run(line, out, |l| l.take_u8())
+}
+
+// Three numbers for each barrier: the buffer's, and its uses before and after. No one reader of N
+// numbers has this and the next two: in a proof no bound of a closure may name a const parameter.
+pub fn take_barriers(line: &mut Line, out: &mut [u32]) -> Result<usize, Wrong>
+    ensures { IfOk result (λ n. 3 * n ≤ length out.old) }
+{
+    let n = line.take_count(out.len() / 3)?;
+    let (barriers, _) = out[..3 * n].as_chunks_mut::<3>();
+    for barrier in barriers {
+        let buffer = take_buffer(line)?;
+        let from = line.take_u16()? as u32;
+        let to = line.take_u16()? as u32;
+        *barrier = [buffer.raw, from, to];
     }
-    TakenRun { count: n, next }
+    Ok(n)
 }
 
 // Two numbers for each texture barrier: its uses before and after.
-pub fn take_uses(line: &[u8], c: Cursor, out: &mut [u32]) -> TakenRun
-    ensures { 2 * result.count ≤ length out.old }
+pub fn take_uses(line: &mut Line, out: &mut [u32]) -> Result<usize, Wrong>
+    ensures { IfOk result (λ n. 2 * n ≤ length out.old) }
 {
-    let t = take_count(line, c, out.len() / 2);
-    let n = t.value;
-    let mut next = t.next;
-    let mut i: usize = 0;
-    while i < n {
-        let from = take_u16(line, next);
-        let at_to = from.next;
-        let to = take_u16(line, at_to);
-        out[2 * i] = from.value;
-        out[2 * i + 1] = to.value;
-        let after = to.next;
-        next = after;
-        i += 1;
+    let n = line.take_count(out.len() / 2)?;
+    let (barriers, _) = out[..2 * n].as_chunks_mut::<2>();
+    for uses in barriers {
+        let from = line.take_u16()? as u32;
+        let to = line.take_u16()? as u32;
+        *uses = [from, to];
     }
-    TakenRun { count: n, next }
+    Ok(n)
 }
 
 // Three numbers for each copy: the source's offset, the destination's and the size.
-pub fn take_regions(line: &[u8], c: Cursor, out: &mut [u64]) -> TakenRun
-    ensures { 3 * result.count ≤ length out.old }
+pub fn take_regions(line: &mut Line, out: &mut [u64]) -> Result<usize, Wrong>
+    ensures { IfOk result (λ n. 3 * n ≤ length out.old) }
 {
-    let t = take_count(line, c, out.len() / 3);
-    let n = t.value;
-    let mut next = t.next;
-    let mut i: usize = 0;
-    while i < n {
-        let from = take_u64(line, next);
-        let at_to = from.next;
-        let to = take_u64(line, at_to);
-        let at_size = to.next;
-        let size = take_u64(line, at_size);
-        out[3 * i] = from.value;
-        out[3 * i + 1] = to.value;
-        out[3 * i + 2] = size.value;
-        let after = size.next;
-        next = after;
-        i += 1;
+    let n = line.take_count(out.len() / 3)?;
+    let (regions, _) = out[..3 * n].as_chunks_mut::<3>();
+    for region in regions {
+        let from = line.take_u64()?;
+        let to = line.take_u64()?;
+        let size = line.take_u64()?;
+        *region = [from, to, size];
     }
-    TakenRun { count: n, next }
-}
-
-#[derive(Clone, Copy)]
-pub struct TakenSet {
-    pub target: u32,
-    pub count: usize,
-    pub next: Cursor,
+    Ok(n)
 }
 
 // A query set: its target, and its queries into the run.
-pub fn take_set(line: &[u8], c: Cursor, out: &mut [u32]) -> TakenSet
-    ensures { result.count ≤ length out.old }
+#[derive(Clone, Copy)]
+pub struct QuerySet {
+    pub target: u32,
+    pub count: usize,
+}
+
+pub fn take_set(line: &mut Line, out: &mut [u32]) -> Result<QuerySet, Wrong>
+    ensures { IfOk result (λ set. set.count ≤ length out.old) }
 {
-    let target = take_u32(line, c);
-    let at_queries = target.next;
-    let queries = take_numbers(line, at_queries, out);
-    let next = queries.next;
-    TakenSet {
-        target: target.value,
-        count: queries.count,
-        next,
-    }
+    let target = line.take_u32()?;
+    let count = take_numbers(line, out)?;
+    Ok(QuerySet { target, count })
 }

@@ -3,7 +3,7 @@ use Prim.Native.Nat.{ℕ, zero, suc, ◌+◌, ◌≤◌, ◌<◌}
 use mathlib.Core.Path.{◌≡◌, refl, sym, ap, ap₂, ◌∙◌, subst, fun_ext}
 use mathlib.Core.Bool.{Bool, true, false, cond, not, ◌&&◌, ◌||◌}
 use mathlib.Core.List.{List, [], ◌∷◌, ◌++◌, map, map-append, append_assoc, append-nil}
-use mathlib.Core.Option.{Option, none}
+use Rattle.std.specs.Prelude.{Option, None, Some}
 use native.Mathlib.Nat.{add_assoc}
 use native.Mathlib.Omega.{arith}
 use lib.Dec.{eqb, ltb, T}
@@ -26,8 +26,6 @@ use Rattle.records.specs.declared.command.Command.TheVariants.{SetStencilOps, Se
 use Rattle.records.specs.declared.command.Command.TheVariants.{UnsetVertexAttribute, SetVertexBuffer, SetProgram, SetPrimitive, SetBlendConstant, SetColorTarget, BindBuffer}
 use Rattle.records.specs.declared.command.Command.TheVariants.{BindSampler, BindTexture, BindImage, PushDebugGroup, PopDebugGroup, SetImmediates, SetClipDistances}
 use Rattle.records.specs.declared.command.DepthBiasState.{DepthBiasState}
-use Rattle.records.specs.declared.command.OptionU32.{OptionU32}
-use Rattle.records.specs.declared.command.OptionU32.TheVariants.{None, Some}
 use Rattle.machine.proofs.Lists.{true-false, false-true, and_left, and_right, and-false}
 use Rattle.machine.specs.Machine.{Gl, fresh_gl, switched}
 use Rattle.lists.specs.Class.{class_of, draws}
@@ -104,7 +102,7 @@ settings-moved m k [] g = refl
 settings-moved m k (c ∷ cs) g = settings-moved m k cs (after g (moved m k c)) ∙ ap (λ (z : Gl). settings z cs) ((still m k c).0 g)
 
 -- ---- the settings after what is put in between: the five are fresh
-abbrev with_samplers : (ℕ → OptionU32) → Gl → Gl
+abbrev with_samplers : (ℕ → Option ℕ) → Gl → Gl
 with_samplers s g = record { vertices = g.vertices; bindings = record { buffers = g.bindings.buffers; textures = g.bindings.textures; images = g.bindings.images; samplers = s; index = g.bindings.index }; screen = g.screen; fixed = g.fixed; faces = g.faces }
 
 abbrev with_blend : ColorF32 → Gl → Gl
@@ -121,22 +119,22 @@ with_three d a c g =
     }
 
 -- the samplers from u on, n of them, are none
-abbrev emptied : ℕ → ℕ → (ℕ → OptionU32) → ℕ → OptionU32
+abbrev emptied : ℕ → ℕ → (ℕ → Option ℕ) → ℕ → Option ℕ
 emptied zero u s i = s i
 emptied (suc n) u s i = cond (eqb i u) None (emptied n (suc u) s i)
 
 -- a unit that is none from the start is none after
-emptied-put : (n u k : ℕ) (s : ℕ → OptionU32) (i : ℕ) → emptied n u (upd s k None) i ≡ cond (eqb i k) None (emptied n u s i)
+emptied-put : (n u k : ℕ) (s : ℕ → Option ℕ) (i : ℕ) → emptied n u (upd s k None) i ≡ cond (eqb i k) None (emptied n u s i)
 emptied-put zero u k s i = refl
-emptied-put (suc n) u k s i = ap (λ (o : OptionU32). cond (eqb i u) None o) (emptied-put n (suc u) k s i) ∙ swap (eqb i u) (eqb i k) (emptied n (suc u) s i)
+emptied-put (suc n) u k s i = ap (λ (o : Option ℕ). cond (eqb i u) None o) (emptied-put n (suc u) k s i) ∙ swap (eqb i u) (eqb i k) (emptied n (suc u) s i)
   where
-    swap : (a b : Bool) (o : OptionU32) → cond a None (cond b None o) ≡ cond b None (cond a None o)
+    swap : (a b : Bool) (o : Option ℕ) → cond a None (cond b None o) ≡ cond b None (cond a None o)
     swap true true o = refl
     swap true false o = refl
     swap false true o = refl
     swap false false o = refl
 
-emptied-none : (n u : ℕ) (s : ℕ → OptionU32) (i : ℕ) → u ≤ i → i < u + n → emptied n u s i ≡ None
+emptied-none : (n u : ℕ) (s : ℕ → Option ℕ) (i : ℕ) → u ≤ i → i < u + n → emptied n u s i ≡ None
 emptied-none zero u s i l h = absurd (omega arith)
 emptied-none (suc n) u s i l h = go (eqb i u) refl (λ k. emptied-none n (suc u) s i k (omega arith))
   where
@@ -147,12 +145,12 @@ emptied-none (suc n) u s i l h = go (eqb i u) refl (λ k. emptied-none n (suc u)
         apart : (i u : ℕ) → u ≤ i → (i ≡ u → ⊥) → suc u ≤ i
         apart i u l ne = omega (arith, ne)
 
-play-off : (n u : ℕ) (s : ℕ → OptionU32) (g : Gl) → ((i : ℕ) → u ≤ i → g.bindings.samplers i ≡ s i) → settings g (samplers_off n u s) ≡ with_samplers (emptied n u g.bindings.samplers) g
+play-off : (n u : ℕ) (s : ℕ → Option ℕ) (g : Gl) → ((i : ℕ) → u ≤ i → g.bindings.samplers i ≡ s i) → settings g (samplers_off n u s) ≡ with_samplers (emptied n u g.bindings.samplers) g
 unfolding settings samplers_off
 play-off zero u s g h = refl
 play-off (suc n) u s g h = go (s u) refl (λ z k. play-off n (suc u) s z k)
   where
-    gs : ℕ → OptionU32
+    gs : ℕ → Option ℕ
     gs = g.bindings.samplers
 
     -- either way the unit is none before the rest
@@ -163,15 +161,15 @@ play-off (suc n) u s g h = go (s u) refl (λ z k. play-off n (suc u) s z k)
         there i true q = sym (ap gs (eqb-true i u q) ∙ e)
         there i false q = refl
 
-    go : (o : OptionU32) → s u ≡ o → ((z : Gl) → ((i : ℕ) → suc u ≤ i → z.bindings.samplers i ≡ s i) → settings z (samplers_off n (suc u) s) ≡ with_samplers (emptied n (suc u) z.bindings.samplers) z)
+    go : (o : Option ℕ) → s u ≡ o → ((z : Gl) → ((i : ℕ) → suc u ≤ i → z.bindings.samplers i ≡ s i) → settings z (samplers_off n (suc u) s) ≡ with_samplers (emptied n (suc u) z.bindings.samplers) z)
         → settings g (off u o ++ samplers_off n (suc u) s) ≡ with_samplers (emptied (suc n) u gs) g
     go None e ih =
         ih g (λ i l. h i (omega arith))
-        ∙ ap (λ (f : ℕ → OptionU32). with_samplers (emptied n (suc u) f) g) (sym (same-unit (h u (omega arith) ∙ e)))
-        ∙ ap (λ (f : ℕ → OptionU32). with_samplers f g) (fun_ext (λ (i : ℕ). emptied-put n (suc u) u gs i))
+        ∙ ap (λ (f : ℕ → Option ℕ). with_samplers (emptied n (suc u) f) g) (sym (same-unit (h u (omega arith) ∙ e)))
+        ∙ ap (λ (f : ℕ → Option ℕ). with_samplers f g) (fun_ext (λ (i : ℕ). emptied-put n (suc u) u gs i))
     go (Some x) e ih =
         ih (with_samplers (upd gs u None) g) (λ i l. upd_other gs u i None (λ q. omega arith) ∙ h i (omega arith))
-        ∙ ap (λ (f : ℕ → OptionU32). with_samplers f g) (fun_ext (λ (i : ℕ). emptied-put n (suc u) u gs i))
+        ∙ ap (λ (f : ℕ → Option ℕ). with_samplers f g) (fun_ext (λ (i : ℕ). emptied-put n (suc u) u gs i))
 
 pub no_bits : bits32 (of_bits binary32 0) ≡ 0
 unfolding bits32 lib.Ieee.of_bits lib.Ieee.to_bits
@@ -395,17 +393,17 @@ unfolding bound_from
 bound-moved m k [] n = refl
 bound-moved m k (c ∷ cs) n = bound-moved m k cs (bound_by n (clip_of (moved m k c))) ∙ ap (λ (o : Option Clips). bound_from (bound_by n o) cs) (still m k c).3
 
-bound-only : (n : ℕ) (t : Bool) (c : Command) → clip_of c ≡ none → bound_from n (only t c) ≡ n
+bound-only : (n : ℕ) (t : Bool) (c : Command) → clip_of c ≡ None → bound_from n (only t c) ≡ n
 unfolding bound_from
 bound-only n true c e = ap (λ (o : Option Clips). bound_by n o) e
 bound-only n false c e = refl
 
-bound-off : (m u : ℕ) (s : ℕ → OptionU32) (n : ℕ) → bound_from n (samplers_off m u s) ≡ n
+bound-off : (m u : ℕ) (s : ℕ → Option ℕ) (n : ℕ) → bound_from n (samplers_off m u s) ≡ n
 unfolding bound_from samplers_off
 bound-off zero u s n = refl
 bound-off (suc m) u s n = bound-append n (off u (s u)) (samplers_off m (suc u) s) ∙ ap (λ (k : ℕ). bound_from k (samplers_off m (suc u) s)) (unit (s u)) ∙ bound-off m (suc u) s n
   where
-    unit : (o : OptionU32) → bound_from n (off u o) ≡ n
+    unit : (o : Option ℕ) → bound_from n (off u o) ≡ n
     unit None = refl
     unit (Some x) = refl
 
@@ -443,10 +441,10 @@ bound-joined a b =
     ∙ bound-moved (length a.bytes) (length a.queries) b.commands 0
 
 -- what is put in is told by the five
-off-alike : (n u : ℕ) (s r : ℕ → OptionU32) → ((i : ℕ) → i < u + n → s i ≡ r i) → samplers_off n u s ≡ samplers_off n u r
+off-alike : (n u : ℕ) (s r : ℕ → Option ℕ) → ((i : ℕ) → i < u + n → s i ≡ r i) → samplers_off n u s ≡ samplers_off n u r
 unfolding samplers_off
 off-alike zero u s r h = refl
-off-alike (suc n) u s r h = ap₂ (λ (o : OptionU32) (l : List Command). off u o ++ l) (h u (omega arith)) (off-alike n (suc u) s r (λ i l. h i (omega arith)))
+off-alike (suc n) u s r h = ap₂ (λ (o : Option ℕ) (l : List Command). off u o ++ l) (h u (omega arith)) (off-alike n (suc u) s r (λ i l. h i (omega arith)))
 
 resets-alike : (g h : Gl) (n m : ℕ) → ((t : Thing) → five t ≡ true → Same t g h) → n ≡ m → resets g n ≡ resets h m
 resets-alike g h n m s q =

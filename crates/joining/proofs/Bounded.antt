@@ -3,7 +3,7 @@ use Prim.Native.Nat.{ℕ, ◌≤◌, ◌<◌}
 use mathlib.Core.Path.{◌≡◌, refl, sym, ap, ◌∙◌}
 use mathlib.Core.Bool.{Bool, true, false, cond, not, ◌&&◌}
 use mathlib.Core.List.{List, [], ◌∷◌}
-use mathlib.Core.Option.{Option, none, some}
+use Rattle.std.specs.Prelude.{Option, None, Some}
 use native.Mathlib.Omega.{arith}
 use lib.Dec.{ltb}
 use borrow.Author.Tests.{eqb-true, ltb-true, ltb-false, lt-ltb, le-ltb}
@@ -17,14 +17,13 @@ use Rattle.records.specs.declared.command.Command.TheVariants.{ClearStencil, Cle
 use Rattle.records.specs.declared.command.Command.TheVariants.{SetStencilOps, SetDepth, SetDepthBias, ConfigureDepthStencil, SetAlphaToCoverage, SetVertexAttribute}
 use Rattle.records.specs.declared.command.Command.TheVariants.{UnsetVertexAttribute, SetVertexBuffer, SetProgram, SetPrimitive, SetBlendConstant, SetColorTarget, BindBuffer}
 use Rattle.records.specs.declared.command.Command.TheVariants.{BindSampler, BindTexture, BindImage, PushDebugGroup, PopDebugGroup, SetImmediates, SetClipDistances}
-use Rattle.records.specs.declared.command.OptionU32.TheVariants.{None, Some}
 use Rattle.lists.specs.Shots.{settings_after, settings}
 use Rattle.lists.specs.Clips.{Clips, clip_of, count_by, count_from, last_count, chains, chained}
 use Rattle.joining.specs.Joined.{bound_after, bound_by, bound_from, end_of, bound_of}
 
 abbrev clip_after : Option Clips → (ℕ → Bool) → ℕ → Bool
-clip_after none f = f
-clip_after (some c) f = switched c.old c.new f
+clip_after None f = f
+clip_after (Some c) f = switched c.old c.new f
 
 clip-law : (c : Command) (g : Gl) → (settings_after g c).fixed.clip ≡ clip_after (clip_of c) g.fixed.clip
 clip-law (Draw t fv vc fi ic l) g = refl
@@ -102,8 +101,8 @@ off_at old new i f x y z = go (ltb i old) refl (ltb i new) refl
     go false p false q = y (ltb-false i old p)
 
 one_more : (b : ℕ) (o : Option Clips) (f : ℕ → Bool) → ((i : ℕ) → b ≤ i → f i ≡ false) → (i : ℕ) → bound_by b o ≤ i → clip_after o f i ≡ false
-one_more b none f h i l = h i l
-one_more b (some c) f h i l = let t = bound-tells b c.old c.new i l in off_at c.old c.new i f t.0 (λ k. h i (t.1 k)) (λ k. h i (t.2 k))
+one_more b None f h i l = h i l
+one_more b (Some c) f h i l = let t = bound-tells b c.old c.new i l in off_at c.old c.new i f t.0 (λ k. h i (t.1 k)) (λ k. h i (t.2 k))
 
 along : (cs : List Command) (b : ℕ) (g : Gl) → ((i : ℕ) → b ≤ i → g.fixed.clip i ≡ false) → (i : ℕ) → bound_from b cs ≤ i → (settings g cs).fixed.clip i ≡ false
 unfolding settings bound_from
@@ -146,8 +145,8 @@ from-count n m = go (ltb n m)
     go false = ap (λ (t : Bool). cond t n m) (le-ltb n n (omega arith))
 
 bound-chain : (n : ℕ) (o : Option Clips) → chains n o ≡ true → bound_by n o ≡ count_by n o
-bound-chain n none e = refl
-bound-chain n (some c) e = ap (λ (k : ℕ). bound_after n k c.new) (eqb-true c.old n e) ∙ from-count n c.new
+bound-chain n None e = refl
+bound-chain n (Some c) e = ap (λ (k : ℕ). bound_after n k c.new) (eqb-true c.old n e) ∙ from-count n c.new
 
 bounds : (cs : List Command) (n : ℕ) → chained n cs ≡ true → bound_from n cs ≡ count_from n cs
 unfolding bound_from count_from chained
@@ -161,8 +160,8 @@ pub chained-bound : (cs : List Command) → chained 0 cs ≡ true → bound_of c
 chained-bound cs e = bounds cs 0 e
 
 on_chain : (n : ℕ) (o : Option Clips) (f : ℕ → Bool) → chains n o ≡ true → ((i : ℕ) → f i ≡ ltb i n) → (i : ℕ) → clip_after o f i ≡ ltb i (count_by n o)
-on_chain n none f e h i = h i
-on_chain n (some c) f e h i =
+on_chain n None f e h i = h i
+on_chain n (Some c) f e h i =
     ap (λ (k : ℕ). switched k c.new f i) (eqb-true c.old n e)
     ∙ ap (λ (t : Bool). cond (not (ltb i n) && ltb i c.new) true (cond (not (ltb i c.new) && ltb i n) false t)) (h i)
     ∙ table (ltb i n) (ltb i c.new)

@@ -13,8 +13,7 @@ use Rattle.records.specs.Start.{start_depth_bias}
 use Rattle.records.specs.Same.{same_depth_bias, depth_bias as depth-equal}
 use Rattle.records.specs.declared.command.Command.{Command}
 use Rattle.records.specs.declared.command.Command.TheVariants.{SetDepthBias, SetAlphaToCoverage, SetBlendConstant, BindSampler, SetClipDistances}
-use Rattle.records.specs.declared.command.OptionU32.{OptionU32}
-use Rattle.records.specs.declared.command.OptionU32.TheVariants.{None, Some}
+use Rattle.std.specs.Prelude.{Option, None, Some}
 use Rattle.machine.specs.Machine.{Gl, fresh_gl}
 use Rattle.machine.proofs.Lists.{false-true, true-false, and-true, and-false, not-true, not-false}
 use Rattle.lists.specs.Clips.{chained}
@@ -51,21 +50,21 @@ named-only true c t e = ap (λ (a : Bool). a || false) e
 named-only false c t e = refl
 
 -- the samplers
-abbrev on : OptionU32 → Bool
+abbrev on : Option ℕ → Bool
 on None = false
 on (Some s) = true
 
-unnamed-off : (n u : ℕ) (s : ℕ → OptionU32) (t : Thing) → ((i : ℕ) → names (BindSampler i None) t ≡ false) → named (samplers_off n u s) t ≡ false
+unnamed-off : (n u : ℕ) (s : ℕ → Option ℕ) (t : Thing) → ((i : ℕ) → names (BindSampler i None) t ≡ false) → named (samplers_off n u s) t ≡ false
 unfolding some? samplers_off
 unnamed-off zero u s t h = refl
 unnamed-off (suc n) u s t h = named-append (off u (s u)) (samplers_off n (suc u) s) t ∙ ap₂ (λ (a b : Bool). a || b) (unit (s u)) (unnamed-off n (suc u) s t h)
   where
-    unit : (o : OptionU32) → named (off u o) t ≡ false
+    unit : (o : Option ℕ) → named (off u o) t ≡ false
     unit None = refl
     unit (Some x) = ap (λ (a : Bool). a || false) (h u)
 
 -- below the units that are gone through, and among them
-below-off : (n u : ℕ) (s : ℕ → OptionU32) (k : ℕ) → k < u → named (samplers_off n u s) (binding (sampler k)) ≡ false
+below-off : (n u : ℕ) (s : ℕ → Option ℕ) (k : ℕ) → k < u → named (samplers_off n u s) (binding (sampler k)) ≡ false
 unfolding some? samplers_off
 below-off zero u s k l = refl
 below-off (suc n) u s k l = named-append (off u (s u)) (samplers_off n (suc u) s) (binding (sampler k)) ∙ ap₂ (λ (a b : Bool). a || b) (unit (s u)) (below-off n (suc u) s k (omega arith))
@@ -73,16 +72,16 @@ below-off (suc n) u s k l = named-append (off u (s u)) (samplers_off n (suc u) s
     apart : eqb k u ≡ false
     apart = ne_eqb k u (λ e. omega (arith, e))
 
-    unit : (o : OptionU32) → named (off u o) (binding (sampler k)) ≡ false
+    unit : (o : Option ℕ) → named (off u o) (binding (sampler k)) ≡ false
     unit None = refl
     unit (Some x) = ap (λ (a : Bool). a || false) apart
 
-named-off : (n u : ℕ) (s : ℕ → OptionU32) (k : ℕ) → u ≤ k → k < u + n → named (samplers_off n u s) (binding (sampler k)) ≡ on (s k)
+named-off : (n u : ℕ) (s : ℕ → Option ℕ) (k : ℕ) → u ≤ k → k < u + n → named (samplers_off n u s) (binding (sampler k)) ≡ on (s k)
 unfolding some? samplers_off
 named-off zero u s k l h = absurd (omega arith)
 named-off (suc n) u s k l h = named-append (off u (s u)) (samplers_off n (suc u) s) (binding (sampler k)) ∙ go (eqb k u) refl (λ p. named-off n (suc u) s k p (omega arith))
   where
-    unit : (o : OptionU32) → named (off u o) (binding (sampler k)) ≡ on o && eqb k u
+    unit : (o : Option ℕ) → named (off u o) (binding (sampler k)) ≡ on o && eqb k u
     unit None = refl
     unit (Some x) = or-false (eqb k u)
 
@@ -208,7 +207,7 @@ module _ (g : Gl) (n : ℕ) where
   five-named (face x) e = false-true e
 
 -- ---- of a list's end
-off-is : (o : OptionU32) → on o ≡ false → o ≡ None
+off-is : (o : Option ℕ) → on o ≡ false → o ≡ None
 off-is None e = refl
 off-is (Some s) e = true-false e
 

@@ -13,7 +13,7 @@ use Rattle.records.specs.declared.command.Command.{Command}
 use Rattle.records.specs.declared.command.Command.TheVariants.{Draw, CopyQueryResults, SetDepthBias, SetAlphaToCoverage, SetBlendConstant, BindSampler, PushDebugGroup, PopDebugGroup, SetImmediates, SetClipDistances}
 use Rattle.records.specs.declared.command.DepthBiasState.{DepthBiasState}
 use Rattle.records.specs.declared.command.ImmediateDesc.{ImmediateDesc}
-use Rattle.records.specs.declared.command.OptionU32.TheVariants.{None, Some}
+use Rattle.std.specs.Prelude.{None, Some}
 use Rattle.lists.specs.declared.limits.Surveyed.{Surveyed}
 use Rattle.lists.specs.declared.limits.Used.{Used}
 use Rattle.lists.specs.Shots.{settings}

@@ -13,7 +13,7 @@ use Rattle.records.specs.declared.command.Command.TheVariants.{ClearStencil, Cle
 use Rattle.records.specs.declared.command.Command.TheVariants.{SetStencilOps, SetDepth, SetDepthBias, ConfigureDepthStencil, SetAlphaToCoverage, SetVertexAttribute}
 use Rattle.records.specs.declared.command.Command.TheVariants.{UnsetVertexAttribute, SetVertexBuffer, SetProgram, SetPrimitive, SetBlendConstant, SetColorTarget, BindBuffer}
 use Rattle.records.specs.declared.command.Command.TheVariants.{BindSampler, BindTexture, BindImage, PushDebugGroup, PopDebugGroup, SetImmediates, SetClipDistances}
-use Rattle.records.specs.declared.command.OptionU32.TheVariants.{None, Some}
+use Rattle.std.specs.Prelude.{None, Some}
 use Rattle.records.specs.declared.command.Record.{Record}
 use Rattle.machine.specs.Machine.{Gl, fresh_gl}
 use Rattle.list_walks.specs.Fold.{fold_at}

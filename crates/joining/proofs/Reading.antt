@@ -23,8 +23,7 @@ use Rattle.records.specs.declared.command.Command.TheVariants.{ClearStencil, Cle
 use Rattle.records.specs.declared.command.Command.TheVariants.{SetStencilOps, SetDepth, SetDepthBias, ConfigureDepthStencil, SetAlphaToCoverage, SetVertexAttribute}
 use Rattle.records.specs.declared.command.Command.TheVariants.{UnsetVertexAttribute, SetVertexBuffer, SetProgram, SetPrimitive, SetBlendConstant, SetColorTarget, BindBuffer}
 use Rattle.records.specs.declared.command.Command.TheVariants.{BindSampler, BindTexture, BindImage, PushDebugGroup, PopDebugGroup, SetImmediates, SetClipDistances}
-use Rattle.records.specs.declared.command.OptionU32.{OptionU32}
-use Rattle.records.specs.declared.command.OptionU32.TheVariants.{None, Some}
+use Rattle.std.specs.Prelude.{Option, None, Some}
 use Rattle.records.specs.declared.command.RangeU32.{RangeU32}
 use Rattle.records.specs.declared.command.Record.{Record}
 use Rattle.list_walks.specs.Fold.{fold_at}
@@ -41,7 +40,7 @@ use Rattle.joining.specs.Plan.{look_record, shifted_by, moved_in}
 use Rattle.joining.proofs.Sums.{shift-here}
 
 -- ---- the five
-abbrev on : OptionU32 → Bool
+abbrev on : Option ℕ → Bool
 on None = false
 on (Some s) = true
 
@@ -50,7 +49,7 @@ Reads e g n =
     ((u : ℕ) → u < 32 → on (g.bindings.samplers u) ≡ test_bit e.units u) × ((u : ℕ) → 16 ≤ u → g.bindings.samplers u ≡ None)
     × (e.bias ≡ g.fixed.bias) × (e.blend ≡ g.screen.blend) × (e.alpha ≡ g.fixed.alpha) × (e.clip ≡ n)
 
-put-unit : (e : Ending) (g : Gl) (u : ℕ) (s : OptionU32) → u < 16 → ((i : ℕ) → i < 32 → on (g.bindings.samplers i) ≡ test_bit e.units i) → (i : ℕ) → i < 32 → on (upd g.bindings.samplers u s i) ≡ test_bit (units_after e.units u s) i
+put-unit : (e : Ending) (g : Gl) (u : ℕ) (s : Option ℕ) → u < 16 → ((i : ℕ) → i < 32 → on (g.bindings.samplers i) ≡ test_bit e.units i) → (i : ℕ) → i < 32 → on (upd g.bindings.samplers u s i) ≡ test_bit (units_after e.units u s) i
 put-unit e g u None l h i k = go (eqb i u) refl ∙ sym (test-clear e.units i u k (omega arith))
   where
     go : (t : Bool) → eqb i u ≡ t → on (cond t None (g.bindings.samplers i)) ≡ (test_bit e.units i && not t)
@@ -78,7 +77,7 @@ put-unit e g u (Some s) l h i k = go (eqb i u) refl ∙ sym (test-set e.units i 
         both true = refl
         both false = refl
 
-put-high : (g : Gl) (u : ℕ) (s : OptionU32) → u < 16 → ((i : ℕ) → 16 ≤ i → g.bindings.samplers i ≡ None) → (i : ℕ) → 16 ≤ i → upd g.bindings.samplers u s i ≡ None
+put-high : (g : Gl) (u : ℕ) (s : Option ℕ) → u < 16 → ((i : ℕ) → 16 ≤ i → g.bindings.samplers i ≡ None) → (i : ℕ) → 16 ≤ i → upd g.bindings.samplers u s i ≡ None
 put-high g u s l h i k = go (eqb i u) refl
   where
     go : (t : Bool) → eqb i u ≡ t → cond t s (g.bindings.samplers i) ≡ None
@@ -153,32 +152,32 @@ pub read-list : (w : Used) (xs : List Record) (l : Looked) → l.ending ≡ fres
 read-list w xs l e k = along w xs 0 l fresh_gl 0 k (subst (λ (z : Ending). Reads z fresh_gl 0) (sym e) reads-fresh)
 
 -- ---- what is put in
-cons-off : (t : Bool) (o : OptionU32) (i : ℕ) (l : List ℕ) (r : List Command) → on o ≡ t → map unset l ≡ r → map unset (cons? t i l) ≡ off i o ++ r
+cons-off : (t : Bool) (o : Option ℕ) (i : ℕ) (l : List ℕ) (r : List Command) → on o ≡ t → map unset l ≡ r → map unset (cons? t i l) ≡ off i o ++ r
 cons-off true None i l r e h = false-true e
 cons-off true (Some s) i l r e h = ap (λ (z : List Command). unset i ∷ z) h
 cons-off false None i l r e h = h
 cons-off false (Some s) i l r e h = true-false e
 
-units-off : (k i m : ℕ) (s : ℕ → OptionU32) → ((j : ℕ) → j < k → on (s (i + j)) ≡ test_bit m j) → map unset (places_from k i m) ≡ samplers_off k i s
+units-off : (k i m : ℕ) (s : ℕ → Option ℕ) → ((j : ℕ) → j < k → on (s (i + j)) ≡ test_bit m j) → map unset (places_from k i m) ≡ samplers_off k i s
 unfolding places_from samplers_off test_bit
 units-off zero i m s h = refl
 units-off (suc k) i m s h =
     cons-off (odd m) (s i) i (places_from k (suc i) _) (samplers_off k (suc i) s) (ap (λ (j : ℕ). on (s j)) (sym (add-zero i)) ∙ h 0 (omega arith))
     (units-off k (suc i) _ s (λ j l. ap (λ (p : ℕ). on (s p)) (suc-add i j ∙ sym (add-suc i j)) ∙ h (suc j) (omega arith)))
 
-off-none : (k i : ℕ) (s : ℕ → OptionU32) → ((j : ℕ) → i ≤ j → s j ≡ None) → samplers_off k i s ≡ []
+off-none : (k i : ℕ) (s : ℕ → Option ℕ) → ((j : ℕ) → i ≤ j → s j ≡ None) → samplers_off k i s ≡ []
 unfolding samplers_off
 off-none zero i s h = refl
-off-none (suc k) i s h = ap (λ (o : OptionU32). off i o ++ samplers_off k (suc i) s) (h i (omega arith)) ∙ off-none k (suc i) s (λ j l. h j (omega arith))
+off-none (suc k) i s h = ap (λ (o : Option ℕ). off i o ++ samplers_off k (suc i) s) (h i (omega arith)) ∙ off-none k (suc i) s (λ j l. h j (omega arith))
 
-off-app : (a b i : ℕ) (s : ℕ → OptionU32) → samplers_off (a + b) i s ≡ samplers_off a i s ++ samplers_off b (i + a) s
+off-app : (a b i : ℕ) (s : ℕ → Option ℕ) → samplers_off (a + b) i s ≡ samplers_off a i s ++ samplers_off b (i + a) s
 unfolding samplers_off
 off-app zero b i s = ap₂ (λ (m p : ℕ). samplers_off m p s) (let z : 0 + b ≡ b = omega arith in z) (sym (add-zero i))
 off-app (suc a) b i s =
     ap (λ (m : ℕ). samplers_off m i s) (suc-add a b) ∙ ap (λ (l : List Command). off i (s i) ++ l) (off-app a b (suc i) s ∙ ap (λ (p : ℕ). samplers_off a (suc i) s ++ samplers_off b p s) (suc-add i a ∙ sym (add-suc i a)))
     ∙ sym (append_assoc (off i (s i)) (samplers_off a (suc i) s) (samplers_off b (i + suc a) s))
 
-low_half : (s : ℕ → OptionU32) → ((j : ℕ) → 16 ≤ j → s j ≡ None) → samplers_off 32 0 s ≡ samplers_off 16 0 s
+low_half : (s : ℕ → Option ℕ) → ((j : ℕ) → 16 ≤ j → s j ≡ None) → samplers_off 32 0 s ≡ samplers_off 16 0 s
 low_half s h = off-app 16 16 0 s ∙ ap (λ (l : List Command). samplers_off 16 0 s ++ l) (off-none 16 16 s (λ j l. h j l)) ∙ append-nil (samplers_off 16 0 s)
 
 pub resets-read : (e : Ending) (g : Gl) (n : ℕ) → Reads e g n → resets_by e ≡ resets g n

@@ -8,8 +8,7 @@ use Rattle.records.specs.Start.{start_depth_bias}
 use Rattle.records.specs.Same.{same_depth_bias}
 use Rattle.records.specs.declared.command.Command.{Command}
 use Rattle.records.specs.declared.command.Command.TheVariants.{SetDepthBias, SetAlphaToCoverage, SetBlendConstant, BindSampler, SetClipDistances}
-use Rattle.records.specs.declared.command.OptionU32.{OptionU32}
-use Rattle.records.specs.declared.command.OptionU32.TheVariants.{None, Some}
+use Rattle.std.specs.Prelude.{Option, None, Some}
 use Rattle.machine.specs.Machine.{Gl}
 use Rattle.joining.specs.Joined.{off, samplers_off, no_color, zero_color, only, resets}
 
@@ -18,12 +17,12 @@ module _ (P : List Command → Type 0) (none : P []) (append : (xs ys : List Com
   only-by true c h = h
   only-by false c h = none
 
-  off-by : ((u : ℕ) → u < 16 → P (BindSampler u None ∷ [])) → (n u : ℕ) (s : ℕ → OptionU32) → u + n ≤ 16 → P (samplers_off n u s)
+  off-by : ((u : ℕ) → u < 16 → P (BindSampler u None ∷ [])) → (n u : ℕ) (s : ℕ → Option ℕ) → u + n ≤ 16 → P (samplers_off n u s)
   unfolding samplers_off
   off-by h zero u s l = none
   off-by h (suc n) u s l = append (off u (s u)) (samplers_off n (suc u) s) (unit (s u)) (off-by h n (suc u) s (omega arith))
     where
-      unit : (o : OptionU32) → P (off u o)
+      unit : (o : Option ℕ) → P (off u o)
       unit None = none
       unit (Some x) = h u (omega arith)
 

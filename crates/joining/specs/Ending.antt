@@ -1,5 +1,5 @@
 -- What the five are at a list's end, as the code keeps it (src/ending.rt), and what is put in for it. Definitions only.
-use Rattle.std.specs.Prelude.{ℕ, Bool, false, not, List, ◌++◌, map, eqb}
+use Rattle.std.specs.Prelude.{ℕ, Bool, false, not, List, ◌++◌, map, eqb, Option, None, Some}
 use Rattle.mask.specs.Mask.{set_bit, clear_bit, places}
 use Rattle.records.specs.Start.{start_depth_bias}
 use Rattle.records.specs.Same.{same_depth_bias}
@@ -13,8 +13,6 @@ use Rattle.records.specs.declared.command.Command.TheVariants.{UnsetVertexAttrib
 use Rattle.records.specs.declared.command.Command.TheVariants.{BindSampler, BindTexture, BindImage, PushDebugGroup, PopDebugGroup, SetImmediates, SetClipDistances}
 use Rattle.records.specs.declared.command.ColorF32.{ColorF32}
 use Rattle.records.specs.declared.command.DepthBiasState.{DepthBiasState}
-use Rattle.records.specs.declared.command.OptionU32.{OptionU32}
-use Rattle.records.specs.declared.command.OptionU32.TheVariants.{None, Some}
 use Rattle.joining.specs.declared.ending.Ending.{Ending}
 use Rattle.joining.specs.Joined.{bound_after, no_color, zero_color, only}
 
@@ -22,7 +20,7 @@ use Rattle.joining.specs.Joined.{bound_after, no_color, zero_color, only}
 abbrev pub fresh_ending : Ending
 fresh_ending = record { units = 0; bias = start_depth_bias; blend = no_color; alpha = false; clip = 0 }
 
-abbrev pub units_after : ℕ → ℕ → OptionU32 → ℕ
+abbrev pub units_after : ℕ → ℕ → Option ℕ → ℕ
 units_after m u None = clear_bit m u
 units_after m u (Some s) = set_bit m u
 

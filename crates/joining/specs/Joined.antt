@@ -1,6 +1,5 @@
 -- Two lists joined: document 02 §14. Definitions only.
-use Rattle.std.specs.Prelude.{ℕ, zero, suc, ◌+◌, Bool, true, false, cond, not, ◌&&◌, List, [], ◌∷◌, ◌++◌, map, eqb, ltb, T, length}
-use Rattle.std.proofs.Math.Option.{Option, none, some}
+use Rattle.std.specs.Prelude.{ℕ, zero, suc, ◌+◌, Bool, true, false, cond, not, ◌&&◌, List, [], ◌∷◌, ◌++◌, map, eqb, ltb, T, length, Option, None, Some}
 use Rattle.std.specs.Float.{binary32}
 use Rattle.std.specs.Float.Ieee.{fits, of_bits}
 use Rattle.numbers.specs.Convert.{bits32}
@@ -15,8 +14,6 @@ use Rattle.records.specs.declared.command.Command.TheVariants.{ClearStencil, Cle
 use Rattle.records.specs.declared.command.Command.TheVariants.{SetStencilOps, SetDepth, SetDepthBias, ConfigureDepthStencil, SetAlphaToCoverage, SetVertexAttribute}
 use Rattle.records.specs.declared.command.Command.TheVariants.{UnsetVertexAttribute, SetVertexBuffer, SetProgram, SetPrimitive, SetBlendConstant, SetColorTarget, BindBuffer}
 use Rattle.records.specs.declared.command.Command.TheVariants.{BindSampler, BindTexture, BindImage, PushDebugGroup, PopDebugGroup, SetImmediates, SetClipDistances}
-use Rattle.records.specs.declared.command.OptionU32.{OptionU32}
-use Rattle.records.specs.declared.command.OptionU32.TheVariants.{None, Some}
 use Rattle.records.specs.declared.command.RangeU32.{RangeU32}
 use Rattle.machine.specs.Machine.{Gl, fresh_gl}
 use Rattle.lists.specs.Clips.{Clips, clip_of}
@@ -95,8 +92,8 @@ abbrev pub bound_after : ℕ → ℕ → ℕ → ℕ
 bound_after b old new = cond (ltb old new) (cond (ltb b new) new b) (cond (ltb old b) b (cond (ltb b new) b new))
 
 abbrev pub bound_by : ℕ → Option Clips → ℕ
-bound_by b none = b
-bound_by b (some c) = bound_after b c.old c.new
+bound_by b None = b
+bound_by b (Some c) = bound_after b c.old c.new
 
 unfoldable pub bound_from : ℕ → List Command → ℕ
 bound_from b [] = b
@@ -104,11 +101,11 @@ bound_from b (c ∷ cs) = bound_from (bound_by b (clip_of c)) cs
 
 -- ---- "what sets samplers to none, depth bias and blend constants to zero, alpha to coverage off and clip distances from the last count to 0";
 -- "Only settings that differ (floats by bits, zero being +0) from those values at the first's end are put in, in the order named, units ascending"
-abbrev pub off : ℕ → OptionU32 → List Command
+abbrev pub off : ℕ → Option ℕ → List Command
 off u None = []
 off u (Some s) = BindSampler u None ∷ []
 
-unfoldable pub samplers_off : ℕ → ℕ → (ℕ → OptionU32) → List Command
+unfoldable pub samplers_off : ℕ → ℕ → (ℕ → Option ℕ) → List Command
 samplers_off zero u s = []
 samplers_off (suc n) u s = off u (s u) ++ samplers_off n (suc u) s
 

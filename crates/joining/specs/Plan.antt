@@ -35,13 +35,6 @@ to_first x room = min x.used.commands room
 abbrev pub looked_of : List Record → Asked → Looked
 looked_of run x = fold_at look_record (first_look x (length run)) 0 (take (to_first x (length run)) run)
 
--- ---- the second
-abbrev pub other_look : Asked → ℕ → Surveyed
-other_look x room = first_survey x.other room
-
-abbrev pub to_other : Asked → ℕ → ℕ
-to_other x room = min x.other.commands room
-
 -- ---- the answer
 abbrev pub asked_of : ℕ → ℕ → ℕ → ℕ → Used → Used → Asked
 asked_of b q ob oq u v = record { bytes = b; queries = q; other_bytes = ob; other_queries = oq; used = u; other = v }

@@ -2,11 +2,11 @@
 // specs/Ending.antt.
 ghost use Rattle.std.specs.Prelude.{◌≡◌};
 ghost use Rattle.joining.specs.Joined.{bound_after, no_color, zero_color};
-ghost use Rattle.joining.specs.Ending.{fresh_ending, units_after, with_units, with_bias, with_blend, with_alpha, with_clip, ending_after};
+ghost use Rattle.joining.specs.Ending.{fresh_ending, units_after, ending_after};
 
 use mask::{clear, set};
 use numbers::bits32;
-use records::command::{ColorF32, Command, DepthBiasState, OptionU32};
+use records::command::{ColorF32, Command, DepthBiasState};
 
 #[derive(Clone, Copy)]
 pub struct Ending {
@@ -33,69 +33,22 @@ pub(crate) fn no_color() -> ColorF32
 pub(crate) fn fresh_ending() -> Ending
     ensures { result ≡ fresh_ending }
 {
-    let bias = DepthBiasState::new();
-    let blend = ColorF32 {
-        r: 0.0,
-        g: 0.0,
-        b: 0.0,
-        a: 0.0,
-    };
     Ending {
         units: 0,
-        bias,
-        blend,
+        bias: DepthBiasState::new(),
+        blend: no_color(),
         alpha: false,
         clip: 0,
     }
 }
 
-fn units_after(units: u32, unit: u32, sampler: OptionU32) -> u32
+fn units_after(units: u32, unit: u32, sampler: Option<u32>) -> u32
     ensures { result ≡ units_after units unit sampler }
 {
     match sampler {
-        OptionU32::None => clear(units, unit),
-        OptionU32::Some(_) => set(units, unit),
+        None => clear(units, unit),
+        Some(_) => set(units, unit),
     }
-}
-
-fn with_units(e: Ending, units: u32) -> Ending
-    ensures { result ≡ with_units e units }
-{
-    let mut next = e;
-    next.units = units;
-    next
-}
-
-fn with_bias(e: Ending, bias: DepthBiasState) -> Ending
-    ensures { result ≡ with_bias e bias }
-{
-    let mut next = e;
-    next.bias = bias;
-    next
-}
-
-fn with_blend(e: Ending, blend: ColorF32) -> Ending
-    ensures { result ≡ with_blend e blend }
-{
-    let mut next = e;
-    next.blend = blend;
-    next
-}
-
-fn with_alpha(e: Ending, alpha: bool) -> Ending
-    ensures { result ≡ with_alpha e alpha }
-{
-    let mut next = e;
-    next.alpha = alpha;
-    next
-}
-
-fn with_clip(e: Ending, clip: u32) -> Ending
-    ensures { result ≡ with_clip e clip }
-{
-    let mut next = e;
-    next.clip = clip;
-    next
 }
 
 // The bound after distances are switched on from old up to new, or off from new up to old.
@@ -122,14 +75,20 @@ pub(crate) fn ended(e: Ending, command: Command) -> Ending
     ensures { result ≡ ending_after e command }
 {
     match command {
-        Command::BindSampler(unit, sampler) => with_units(e, units_after(e.units, unit, sampler)),
-        Command::SetDepthBias(bias) => with_bias(e, bias),
-        Command::SetBlendConstant(blend) => with_blend(e, blend),
-        Command::SetAlphaToCoverage(alpha) => with_alpha(e, alpha),
+        Command::BindSampler(unit, sampler) => Ending {
+            units: units_after(e.units, unit, sampler),
+            ..e
+        },
+        Command::SetDepthBias(bias) => Ending { bias, ..e },
+        Command::SetBlendConstant(blend) => Ending { blend, ..e },
+        Command::SetAlphaToCoverage(alpha) => Ending { alpha, ..e },
         Command::SetClipDistances {
             old_count,
             new_count,
-        } => with_clip(e, bound_after(e.clip, old_count, new_count)),
+        } => Ending {
+            clip: bound_after(e.clip, old_count, new_count),
+            ..e
+        },
         _ => e,
     }
 }

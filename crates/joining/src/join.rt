@@ -12,43 +12,13 @@ ghost use Rattle.joining.specs.Plan.{numbers_by, planned_of, reset_at, Allowed, 
 use crate::ending::{Ending, no_color, zero_color};
 use crate::moving::moved_record;
 use crate::plan::{
-    Asked, JoinPlan, Joined, Looked, Resets, ask_of, done_plan, is_done, judge, look_first,
-    look_other, one, refused_plan, resets_count,
+    Asked, JoinPlan, Joined, Looked, Resets, done_plan, is_done, judge, look_first, refused_plan,
+    resets_count,
 };
-use lists::limits::{Surveyed, Used};
+use lists::limits::{Surveyed, Used, survey};
 use mask::{count, nth};
-use records::command::{Command, DepthBiasState, OptionU32, Record};
+use records::command::{Command, DepthBiasState, Record};
 use records::same::same_depth_bias;
-
-fn batch_of(plan: JoinPlan) -> Resets
-    ensures { result ≡ plan.batch }
-{
-    plan.batch
-}
-
-fn batch_at(batch: Resets) -> usize
-    ensures { result ≡ batch.at }
-{
-    batch.at
-}
-
-fn batch_n(batch: Resets) -> usize
-    ensures { result ≡ batch.n }
-{
-    batch.n
-}
-
-fn copied_n(plan: JoinPlan) -> usize
-    ensures { result ≡ plan.copied.commands }
-{
-    plan.copied.commands
-}
-
-fn copied_at(plan: JoinPlan) -> usize
-    ensures { result ≡ plan.from.commands }
-{
-    plan.from.commands
-}
 
 // Of what is put in, the command past the samplers at a place.
 fn rest_at(e: Ending, k: usize) -> Command
@@ -59,10 +29,10 @@ fn rest_at(e: Ending, k: usize) -> Command
     let start = DepthBiasState::new();
     let same = same_depth_bias(bias, start);
     let zero = zero_color(blend);
-    let first = one(!same);
-    let second = one(!zero);
-    let third = one(e.alpha);
-    let fourth = one(e.clip != 0);
+    let first = usize::from(!same);
+    let second = usize::from(!zero);
+    let third = usize::from(e.alpha);
+    let fourth = usize::from(e.clip != 0);
     if k < first {
         return Command::SetDepthBias(start);
     }
@@ -95,42 +65,28 @@ fn reset_at(batch: Resets, i: usize) -> Command
     let n = count(units) as usize;
     if i < n {
         let unit = nth(units, i as u32);
-        return Command::BindSampler(unit, OptionU32::None);
+        return Command::BindSampler(unit, None);
     }
     rest_at(e, i - n)
 }
 
-fn fill_resets(list: &mut [Record], at: usize, n: usize, batch: Resets)
-    requires { (at + n ≤ length list.old) × ((i : ℕ) → i < n → Allowed batch i) }
-    ensures { list.new ≡ filled (λ i. record_of (reset_at batch i)) list.old at n }
+// Not `calls::record`: this crate does not depend on `calls`.
+fn put_in(list: &mut [Record], batch: Resets)
+    requires { (batch.at + batch.n ≤ length list.old) × ((i : ℕ) → i < batch.n → Allowed batch i) }
+    ensures { list.new ≡ filled (λ i. record_of (reset_at batch i)) list.old batch.at batch.n }
 {
-    let mut i: usize = 0;
-    while i < n {
-        let c = reset_at(batch, i);
-        list[at + i] = Record { command: c };
-        i += 1;
+    for i in 0..batch.n {
+        let command = reset_at(batch, i);
+        list[batch.at + i] = Record { command };
     }
 }
 
-fn put_in(list: &mut [Record], plan: JoinPlan)
-    requires { (plan.batch.at + plan.batch.n ≤ length list.old) × ((i : ℕ) → i < plan.batch.n → Allowed plan.batch i) }
-    ensures { list.new ≡ filled (λ i. record_of (reset_at plan.batch i)) list.old plan.batch.at plan.batch.n }
+fn copy_moved(src: &[Record], dst: &mut [Record], plan: JoinPlan)
+    requires { (plan.copied.commands ≤ length src.now) × (plan.from.commands + plan.copied.commands ≤ length dst.old) }
+    ensures { dst.new ≡ paste dst.old plan.from.commands (map_at (moved_record plan) 0 src.now) plan.copied.commands }
 {
-    let batch = batch_of(plan);
-    let at = batch_at(batch);
-    let n = batch_n(batch);
-    fill_resets(list, at, n, batch);
-}
-
-fn copy_moved(src: &[Record], n: usize, dst: &mut [Record], at: usize, plan: JoinPlan)
-    requires { (n ≤ length src.now) × (at + n ≤ length dst.old) }
-    ensures { dst.new ≡ paste dst.old at (map_at (moved_record plan) 0 src.now) n }
-{
-    let mut i: usize = 0;
-    while i < n {
-        let r = src[i];
-        dst[at + i] = moved_record(plan, i, r);
-        i += 1;
+    for i in 0..plan.copied.commands {
+        dst[plan.from.commands + i] = moved_record(plan, i, src[i]);
     }
 }
 
@@ -153,12 +109,10 @@ fn join_list(list: &mut [Record], other: &[Record], x: Asked) -> JoinPlan
     ensures { ListJoined list.old other.now x list.new result }
 {
     let a = look_first(list, x);
-    let s = look_other(other, x);
+    let s = survey(other, x.other);
     let plan = plan_join(x, a, s);
-    put_in(list, plan);
-    let n = copied_n(plan);
-    let at = copied_at(plan);
-    copy_moved(other, n, list, at, plan);
+    put_in(list, plan.batch);
+    copy_moved(other, list, plan);
     plan
 }
 
@@ -175,32 +129,13 @@ fn join_runs(
 {
     let from = plan.from;
     let copied = plan.copied;
-    copy_bytes(bytes, other_bytes, from.bytes, copied.bytes);
-    copy_queries(queries, other_queries, from.queries, copied.queries);
-    let outcome = plan.outcome;
-    let used = plan.used;
-    Joined { outcome, used }
-}
-
-fn copy_bytes(bytes: &mut [u8], other: &[u8], at: usize, n: usize)
-    requires { (at + n ≤ length bytes.old) × (n ≤ length other.now) }
-    ensures { bytes.new ≡ numbers_by bytes.old at other.now n }
-{
-    let mut i: usize = 0;
-    while i < n {
-        bytes[at + i] = other[i];
-        i += 1;
-    }
-}
-
-fn copy_queries(queries: &mut [u32], other: &[u32], at: usize, n: usize)
-    requires { (at + n ≤ length queries.old) × (n ≤ length other.now) }
-    ensures { queries.new ≡ numbers_by queries.old at other.now n }
-{
-    let mut i: usize = 0;
-    while i < n {
-        queries[at + i] = other[i];
-        i += 1;
+    bytes[from.bytes..from.bytes + copied.bytes].copy_from_slice(&other_bytes[..copied.bytes]);
+    queries[from.queries..from.queries + copied.queries].copy_from_slice(
+        &other_queries[..copied.queries],
+    );
+    Joined {
+        outcome: plan.outcome,
+        used: plan.used,
     }
 }
 
@@ -218,14 +153,14 @@ pub fn join(
 ) -> Joined
     ensures { Joins (lent list.old bytes.old queries.old used) (lent other.now other_bytes.now other_queries.now other_used) (lent list.new bytes.new queries.new result.used) result.outcome }
 {
-    let x = ask_of(
-        bytes.len(),
-        queries.len(),
-        other_bytes.len(),
-        other_queries.len(),
+    let x = Asked {
+        bytes: bytes.len(),
+        queries: queries.len(),
+        other_bytes: other_bytes.len(),
+        other_queries: other_queries.len(),
         used,
-        other_used,
-    );
+        other: other_used,
+    };
     let plan = join_list(list, other, x);
     join_runs(bytes, queries, other_bytes, other_queries, plan)
 }

@@ -23,9 +23,10 @@ fn shifted(by: usize, n: u32) -> u32
 fn moved_range(by: usize, r: RangeU32) -> RangeU32
     ensures { result ≡ range_by (shifted_by by) r }
 {
-    let start = shifted(by, r.start);
-    let end = shifted(by, r.end);
-    RangeU32 { start, end }
+    RangeU32 {
+        start: shifted(by, r.start),
+        end: shifted(by, r.end),
+    }
 }
 
 fn moved_command(bytes: usize, queries: usize, command: Command) -> Command
@@ -64,8 +65,7 @@ fn moved_command(bytes: usize, queries: usize, command: Command) -> Command
 pub(crate) fn moved_record(plan: JoinPlan, i: usize, x: Record) -> Record
     ensures { result ≡ moved_record plan i x }
 {
-    let from = plan.from;
-    let old = x.command;
-    let command = moved_command(from.bytes, from.queries, old);
-    Record { command }
+    Record {
+        command: moved_command(plan.from.bytes, plan.from.queries, x.command),
+    }
 }

@@ -6,7 +6,7 @@ ghost use Rattle.lists.specs.Survey.{survey_of};
 ghost use Rattle.joining.specs.Ending.{resets_by};
 ghost use Rattle.joining.specs.Joins.{number, is_done, too_long};
 ghost use Rattle.joining.specs.Plan.{none, total, small_by, judged_by, refused_plan, done_plan};
-ghost use Rattle.joining.specs.Plan.{look_record, first_look, to_first, looked_of, other_look, to_other, asked_of};
+ghost use Rattle.joining.specs.Plan.{look_record, looked_of};
 
 use crate::ending::{Ending, ended, fresh_ending, zero_color};
 use lists::limits::{Surveyed, Used, first_survey, survey_between, survey_record};
@@ -34,7 +34,8 @@ pub struct Looked {
     pub room: usize,
 }
 
-#[derive(Clone, Copy)]
+// One enum, since `Joins` and `verdict` (specs/Joins.antt) name `Done` among the answers.
+#[derive(Clone, Copy, Debug, PartialEq, Eq)]
 pub enum Joining {
     Done,
     // 2
@@ -47,6 +48,8 @@ pub enum Joining {
     NoRoom,
 }
 
+// The first's counts where nothing is written, so no value that a refusal leaves out (the contract
+// `Joins` names both).
 #[derive(Clone, Copy)]
 pub struct Joined {
     pub outcome: Joining,
@@ -72,70 +75,16 @@ pub struct JoinPlan {
     pub batch: Resets,
 }
 
-pub(crate) fn ask_of(
-    bytes: usize,
-    queries: usize,
-    other_bytes: usize,
-    other_queries: usize,
-    used: Used,
-    other: Used,
-) -> Asked
-    ensures { result ≡ asked_of bytes queries other_bytes other_queries used other }
-{
-    Asked {
-        bytes,
-        queries,
-        other_bytes,
-        other_queries,
-        used,
-        other,
-    }
-}
-
-fn to_first(x: Asked, room: usize) -> usize
-    ensures { result ≡ to_first x room }
-{
-    within(x.used.commands, room)
-}
-
-fn to_other(x: Asked, room: usize) -> usize
-    ensures { result ≡ to_other x room }
-{
-    within(x.other.commands, room)
-}
-
-fn first_look(x: Asked, room: usize) -> Looked
-    ensures { result ≡ first_look x room }
-{
-    let surveyed = first_survey(x.used, room);
-    let ending = fresh_ending();
-    Looked {
-        surveyed,
-        ending,
-        room,
-    }
-}
-
-fn other_look(x: Asked, room: usize) -> Surveyed
-    ensures { result ≡ other_look x room }
-{
-    first_survey(x.other, room)
-}
-
 fn look_record(l: Looked, i: usize, x: Record) -> Looked
     requires { l.surveyed.draws + 1 < 2 ^ 64 }
     ensures { result ≡ look_record l i x }
 {
-    let command = x.command;
-    let before = l.surveyed;
-    let five = l.ending;
-    let surveyed = survey_record(before, i, x);
-    let ending = ended(five, command);
-    let room = l.room;
+    let surveyed = survey_record(l.surveyed, i, x);
+    let ending = ended(l.ending, x.command);
     Looked {
         surveyed,
         ending,
-        room,
+        ..l
     }
 }
 
@@ -144,11 +93,8 @@ fn look_between(list: &[Record], from: usize, to: usize, acc: Looked) -> Looked
     ensures { result ≡ fold_at look_record acc from (part list.now from to) }
 {
     let mut a = acc;
-    let mut i = from;
-    while i < to {
-        let r = list[i];
-        a = look_record(a, i, r);
-        i += 1;
+    for i in from..to {
+        a = look_record(a, i, list[i]);
     }
     a
 }
@@ -158,25 +104,12 @@ pub(crate) fn look_first(list: &[Record], x: Asked) -> Looked
     ensures { result ≡ looked_of list.now x }
 {
     let room = list.len();
-    let n = to_first(x, room);
-    let acc = first_look(x, room);
-    look_between(list, 0, n, acc)
-}
-
-// The second.
-pub(crate) fn look_other(list: &[Record], x: Asked) -> Surveyed
-    ensures { result ≡ survey_of list.now x.other }
-{
-    let room = list.len();
-    let n = to_other(x, room);
-    let acc = other_look(x, room);
-    survey_between(list, 0, n, acc)
-}
-
-pub(crate) fn one(b: bool) -> usize
-    ensures { result ≡ cond b 1 0 }
-{
-    if b { 1 } else { 0 }
+    let acc = Looked {
+        surveyed: first_survey(x.used, room),
+        ending: fresh_ending(),
+        room,
+    };
+    look_between(list, 0, within(x.used.commands, room), acc)
 }
 
 // How many commands are put in.
@@ -189,10 +122,10 @@ pub(crate) fn resets_count(e: Ending) -> usize
     let same = same_depth_bias(bias, start);
     let zero = zero_color(blend);
     let units = count(e.units);
-    let first = one(!same);
-    let second = one(!zero);
-    let third = one(e.alpha);
-    let fourth = one(e.clip != 0);
+    let first = usize::from(!same);
+    let second = usize::from(!zero);
+    let third = usize::from(e.alpha);
+    let fourth = usize::from(e.clip != 0);
     (units as usize) + (first + (second + (third + fourth)))
 }
 
@@ -201,13 +134,7 @@ fn beyond(limit: usize, a: usize, n: usize, b: usize) -> bool
     requires { (limit ≤ 65536) × (n ≤ 36) }
     ensures { result ≡ ltb limit (a + (n + b)) }
 {
-    if limit < a {
-        return true;
-    }
-    if limit < b {
-        return true;
-    }
-    limit < a + (n + b)
+    limit < a || limit < b || limit < a + (n + b)
 }
 
 // 16.
@@ -265,13 +192,7 @@ pub(crate) fn judge(x: Asked, a: Looked, s: Surveyed, n: usize) -> Joining
 pub(crate) fn is_done(outcome: Joining) -> bool
     ensures { result ≡ is_done outcome }
 {
-    match outcome {
-        Joining::Done => true,
-        Joining::TooMany => false,
-        Joining::OutOfRange => false,
-        Joining::TooLong => false,
-        Joining::NoRoom => false,
-    }
+    matches!(outcome, Joining::Done)
 }
 
 // Document 02's number of the answer.
@@ -287,34 +208,24 @@ pub fn join_number(outcome: Joining) -> u8
     }
 }
 
-fn no_use() -> Used
-    ensures { result ≡ none }
-{
-    Used {
-        commands: 0,
-        bytes: 0,
-        queries: 0,
-    }
-}
-
 pub(crate) fn refused_plan(outcome: Joining, x: Asked, a: Looked) -> JoinPlan
     ensures { result ≡ refused_plan outcome x a }
 {
-    let used = x.used;
-    let from = no_use();
-    let copied = no_use();
-    let ending = a.ending;
-    let batch = Resets {
-        at: 0,
-        n: 0,
-        ending,
+    let nothing = Used {
+        commands: 0,
+        bytes: 0,
+        queries: 0,
     };
     JoinPlan {
         outcome,
-        used,
-        from,
-        copied,
-        batch,
+        used: x.used,
+        from: nothing,
+        copied: nothing,
+        batch: Resets {
+            at: 0,
+            n: 0,
+            ending: a.ending,
+        },
     }
 }
 
@@ -340,9 +251,8 @@ pub(crate) fn done_plan(x: Asked, a: Looked, n: usize) -> JoinPlan
         n,
         ending,
     };
-    let outcome = Joining::Done;
     JoinPlan {
-        outcome,
+        outcome: Joining::Done,
         used,
         from,
         copied,

@@ -3,7 +3,7 @@ use Prim.Native.Nat.{ℕ, zero, suc, ◌+◌, ◌*◌, ◌<◌}
 use mathlib.Core.Path.{◌≡◌, refl, sym, ap, ◌∙◌, subst}
 use mathlib.Core.Bool.{Bool, true, false, cond}
 use mathlib.Core.List.{List, [], ◌∷◌, ◌++◌}
-use mathlib.Core.Option.{Option, none, some}
+use Rattle.std.specs.Prelude.{Option, None, Some}
 use mathlib.Core.Logic.{◌⊎◌, inl, inr}
 use native.Mathlib.Omega.{arith}
 use lib.Dec.{eqb}
@@ -16,8 +16,6 @@ use Rattle.records.specs.declared.binding.RawBinding.TheVariants as content
 use Rattle.records.specs.declared.command.BufferBinding.{BufferBinding}
 use Rattle.records.specs.declared.command.Command.{Command}
 use Rattle.records.specs.declared.command.Command.TheVariants.{Draw, DrawIndexed, DrawIndirect, DrawIndexedIndirect}
-use Rattle.records.specs.declared.command.OptionU32.{OptionU32}
-use Rattle.records.specs.declared.command.OptionU32.TheVariants.{None, Some}
 use Rattle.records.specs.declared.pipeline.PrivateCapabilities.{PrivateCapabilities}
 use Rattle.records.specs.declared.pipeline.RenderPipeline.{RenderPipeline}
 use Rattle.records.specs.declared.state.IndexFormat.{IndexFormat}
@@ -40,11 +38,11 @@ pub record Over (o b : Bound) : Type 0 where
   pub images : (i : ℕ) → known (o.images i) ≡ true → o.images i ≡ b.images i
   pub samplers : (k : ℕ) → (o.samplers k ≡ None → ⊥) → o.samplers k ≡ b.samplers k
 
-put : {A : Type 0} (t : Bool) (x : A) (u v : Option A) → (known u ≡ true → u ≡ v) → known (cond t (some x) u) ≡ true → cond t (some x) u ≡ cond t (some x) v
+put : {A : Type 0} (t : Bool) (x : A) (u v : Option A) → (known u ≡ true → u ≡ v) → known (cond t (Some x) u) ≡ true → cond t (Some x) u ≡ cond t (Some x) v
 put true x u v h e = refl
 put false x u v h e = h e
 
-put-sampler : (t : Bool) (x : OptionU32) (u v : OptionU32) → ((u ≡ None → ⊥) → u ≡ v) → (cond t x u ≡ None → ⊥) → cond t x u ≡ cond t x v
+put-sampler : (t : Bool) (x : Option ℕ) (u v : Option ℕ) → ((u ≡ None → ⊥) → u ≡ v) → (cond t x u ≡ None → ⊥) → cond t x u ≡ cond t x v
 put-sampler true x u v h e = refl
 put-sampler false x u v h e = h e
 
@@ -54,8 +52,8 @@ over-entry e (content.Buffer raw offset size) os o b O = record { buffers = λ t
     x : BufferRange
     x = record { buffer = raw; offset = offset_in e offset os; size = size }
 
-    go : (t i : ℕ) (s : Bool) → known (cond s (upd (o.buffers (target_of e.ty)) e.slot (some x)) (o.buffers t) i) ≡ true
-        → cond s (upd (o.buffers (target_of e.ty)) e.slot (some x)) (o.buffers t) i ≡ cond s (upd (b.buffers (target_of e.ty)) e.slot (some x)) (b.buffers t) i
+    go : (t i : ℕ) (s : Bool) → known (cond s (upd (o.buffers (target_of e.ty)) e.slot (Some x)) (o.buffers t) i) ≡ true
+        → cond s (upd (o.buffers (target_of e.ty)) e.slot (Some x)) (o.buffers t) i ≡ cond s (upd (b.buffers (target_of e.ty)) e.slot (Some x)) (b.buffers t) i
     go t i true h = put (eqb i e.slot) x (o.buffers (target_of e.ty) i) (b.buffers (target_of e.ty) i) (O.buffers (target_of e.ty) i) h
     go t i false h = O.buffers t i h
 over-entry e (content.Texture raw target aspects mips) os o b O =
@@ -133,17 +131,17 @@ module _ (o b : Book) (O : Covers true o b) (I : Indexed o b) where
   -- a book with the things that a view is made of
   abbrev book_by : Option RenderPipeline → Option References → (ℕ → Option BufferBinding) → Option ℕ → Book
   book_by p r x i =
-      record { stage = before; pipeline = p; reference = r; buffer = x; index = i; format = o.format; offset = 0; bound = o.bound; viewport = none; scissor = none; blend = o.blend; draws = [] }
+      record { stage = before; pipeline = p; reference = r; buffer = x; index = i; format = o.format; offset = 0; bound = o.bound; viewport = None; scissor = None; blend = o.blend; draws = [] }
 
-  unit : (n : OptionU32) → (n ≡ None) ⊎ (named_sampler o.bound.samplers n ≡ None → ⊥) → named_sampler o.bound.samplers n ≡ named_sampler b.bound.samplers n
+  unit : (n : Option ℕ) → (n ≡ None) ⊎ (named_sampler o.bound.samplers n ≡ None → ⊥) → named_sampler o.bound.samplers n ≡ named_sampler b.bound.samplers n
   unit None q = refl
   unit (Some k) (inl q) = let z : ◌≡◌ {A = ℕ} 0 1 = cc in absurd (omega arith)
   unit (Some k) (inr q) = O.bound.samplers k q
 
-  abbrev sampler : ℕ → OptionU32
+  abbrev sampler : ℕ → Option ℕ
   sampler u = named_sampler o.bound.samplers (number_by o.pipeline u)
 
-  abbrev other : ℕ → OptionU32
+  abbrev other : ℕ → Option ℕ
   other u = named_sampler b.bound.samplers (number_by b.pipeline u)
 
   units : (u : ℕ) → u < 16 → (number_by o.pipeline u ≡ None) ⊎ (get_or (tabulate 16 sampler) u None ≡ None → ⊥) → get_or (tabulate 16 sampler) u None ≡ get_or (tabulate 16 other) u None
@@ -162,21 +160,21 @@ module _ (o b : Book) (O : Covers true o b) (I : Indexed o b) where
   names-alike w indexed c d e =
       record {
         command = e;
-        program = λ j. (names (book_by (O.pipeline j) none (λ i. none) none) w indexed c).program;
-        fetches = λ j. (names (book_by (O.pipeline j) none (O.buffer j) none) w indexed c).fetches;
+        program = λ j. (names (book_by (O.pipeline j) None (λ i. None) None) w indexed c).program;
+        fetches = λ j. (names (book_by (O.pipeline j) None (O.buffer j) None) w indexed c).fetches;
         viewport = O.viewport;
         scissor = O.scissor;
         blend = O.blend refl;
-        primitive = λ j. (names (book_by (O.pipeline j) none (λ i. none) none) w indexed c).primitive;
-        bias = λ j. (names (book_by (O.pipeline j) none (λ i. none) none) w indexed c).bias;
-        alpha = λ j. (names (book_by (O.pipeline j) none (λ i. none) none) w indexed c).alpha;
-        targets = λ j. (names (book_by (O.pipeline j) none (λ i. none) none) w indexed c).targets;
-        clip = λ j. (names (book_by (O.pipeline j) none (λ i. none) none) w indexed c).clip;
-        has_depth = λ j. (names (book_by (O.pipeline j) none (λ i. none) none) w indexed c).has_depth;
-        has_stencil = λ j. (names (book_by (O.pipeline j) none (λ i. none) none) w indexed c).has_stencil;
-        depth = λ j. (names (book_by (O.pipeline j) none (λ i. none) none) w indexed c).depth;
-        stencil = λ j. (names (book_by (O.pipeline j) (O.reference j) (λ i. none) none) w indexed c).stencil;
-        index = λ j. (names (book_by none none (λ i. none) (I.0 j)) w indexed c).index;
+        primitive = λ j. (names (book_by (O.pipeline j) None (λ i. None) None) w indexed c).primitive;
+        bias = λ j. (names (book_by (O.pipeline j) None (λ i. None) None) w indexed c).bias;
+        alpha = λ j. (names (book_by (O.pipeline j) None (λ i. None) None) w indexed c).alpha;
+        targets = λ j. (names (book_by (O.pipeline j) None (λ i. None) None) w indexed c).targets;
+        clip = λ j. (names (book_by (O.pipeline j) None (λ i. None) None) w indexed c).clip;
+        has_depth = λ j. (names (book_by (O.pipeline j) None (λ i. None) None) w indexed c).has_depth;
+        has_stencil = λ j. (names (book_by (O.pipeline j) None (λ i. None) None) w indexed c).has_stencil;
+        depth = λ j. (names (book_by (O.pipeline j) None (λ i. None) None) w indexed c).depth;
+        stencil = λ j. (names (book_by (O.pipeline j) (O.reference j) (λ i. None) None) w indexed c).stencil;
+        index = λ j. (names (book_by None None (λ i. None) (I.0 j)) w indexed c).index;
         buffers = O.bound.buffers;
         textures = O.bound.textures;
         images = O.bound.images;
@@ -253,7 +251,7 @@ module _ (caps : PrivateCapabilities) (t : Bool) (o b : Book) (O : Covers t o b)
   pass-call (set_index_buffer raw offset format) I A =
       (tt, covering O.stage O.pipeline O.reference O.buffer (λ h. (refl, refl, refl)) O.bound O.viewport O.scissor O.blend O.log, refl)
   pass-call (set_vertex_buffer i raw offset) I A =
-      let f = ap (λ (x : ℕ → Option BufferBinding). upd x i (some (record { raw = raw; offset = offset }))) O.buffer in
+      let f = ap (λ (x : ℕ → Option BufferBinding). upd x i (Some (record { raw = raw; offset = offset }))) O.buffer in
       (tt, covering O.stage O.pipeline O.reference f O.index O.bound O.viewport O.scissor O.blend O.log, refl)
   pass-call (set_viewport r d) I A = (tt, covering O.stage O.pipeline O.reference O.buffer O.index O.bound refl O.scissor O.blend O.log, refl)
   pass-call (set_scissor_rect r) I A = (tt, covering O.stage O.pipeline O.reference O.buffer O.index O.bound O.viewport refl O.blend O.log, refl)

@@ -4,7 +4,7 @@ use Prim.Native.Nat.{ℕ}
 use mathlib.Core.Path.{◌≡◌, refl, sym, ap, ◌∙◌, subst}
 use mathlib.Core.Bool.{Bool, true, false, cond}
 use mathlib.Core.List.{List, [], ◌∷◌, ◌++◌}
-use mathlib.Core.Option.{none}
+use Rattle.std.specs.Prelude.{None}
 use native.Mathlib.Omega.{arith}
 use lib.ListN.{length, take}
 use Rattle.records.specs.declared.check.Rooms.{Rooms}
@@ -149,9 +149,9 @@ abbrev pub reopen : Book → Book
 reopen b =
     record {
       stage = first;
-      pipeline = none;
-      reference = none;
-      buffer = λ i. none;
+      pipeline = None;
+      reference = None;
+      buffer = λ i. None;
       index = b.index;
       format = b.format;
       offset = b.offset;

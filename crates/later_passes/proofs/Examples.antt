@@ -4,7 +4,7 @@ use Prim.Native.Nat.{ℕ}
 use mathlib.Core.Path.{◌≡◌, refl, sym, subst}
 use mathlib.Core.Bool.{true, false}
 use mathlib.Core.List.{List, [], ◌∷◌, ◌++◌, map}
-use mathlib.Core.Option.{Option, none, some}
+use Rattle.std.specs.Prelude.{Option, None, Some}
 use lib.Ieee.{binary32, of_bits}
 use lib.IntN.{pos}
 use Rattle.tables.specs.Tabulate.{tabulate}
@@ -19,12 +19,8 @@ use Rattle.records.specs.declared.binding.BufferBindingType.TheVariants.{Uniform
 use Rattle.records.specs.declared.binding.RawBinding.TheVariants as content
 use Rattle.records.specs.declared.command.ColorF32.{ColorF32}
 use Rattle.records.specs.declared.command.Command.TheVariants.{DrawIndexed}
-use Rattle.records.specs.declared.command.OptionU32.TheVariants.{None, Some}
 use Rattle.records.specs.declared.command.VertexStepMode.{VertexStepMode}
 use Rattle.records.specs.declared.command.VertexStepMode.TheVariants.{Vertex, Instance}
-use Rattle.records.specs.declared.pass.OptionDepthStencil.TheVariants as target
-use Rattle.records.specs.declared.pass.OptionTimestampWrites.TheVariants as writes
-use Rattle.records.specs.declared.pipeline.OptionStencilState.TheVariants as stencil
 use Rattle.records.specs.declared.pipeline.PrivateCapabilities.{PrivateCapabilities}
 use Rattle.records.specs.declared.pipeline.RenderPipeline.{RenderPipeline}
 use Rattle.records.specs.declared.state.IndexFormat.TheVariants.{Uint16, Uint32}
@@ -55,7 +51,7 @@ abbrev one : RenderPipeline
 one = pipeline 1 (by_vertex 12 ∷ []) (attribute 0 0 0 ∷ [])
 
 abbrev two : RenderPipeline
-two = pipeline_of (inner_of 2 (no_bind ∷ no_bind ∷ takes 5 ∷ []) []) (by_vertex 12 ∷ by_instance 8 ∷ []) (attribute 0 0 0 ∷ attribute 3 4 1 ∷ []) stencil.None Ccw
+two = pipeline_of (inner_of 2 (no_bind ∷ no_bind ∷ takes 5 ∷ []) []) (by_vertex 12 ∷ by_instance 8 ∷ []) (attribute 0 0 0 ∷ attribute 3 4 1 ∷ []) None Ccw
 
 abbrev dark : ColorF32
 dark = record { r = of_bits binary32 0; g = of_bits binary32 0; b = of_bits binary32 0; a = of_bits binary32 0 }
@@ -81,7 +77,7 @@ wall =
     ∷ set_blend_constants bright
     ∷ draw_at 5
     ∷ end_render_pass
-    ∷ begin_compute_pass writes.None no_label no_queries
+    ∷ begin_compute_pass None no_label no_queries
     ∷ set_compute_pipeline (record { inner = inner_of 9 [] [] })
     ∷ end_compute_pass
     ∷ []
@@ -170,7 +166,7 @@ draws_in k earlier body after = pass_draws (flags k) rooms start_state earlier b
 
 find-same-here : (k : Board) → FindSame (own (flags k) bare_pass classroom) (draws_in k wall classroom (end_render_pass ∷ end_encoding ∷ [])) (draws_in k [] classroom [])
 find-same-here k =
-    later-passes (flags k) rooms rooms start_state start_state wall [] (end_render_pass ∷ end_encoding ∷ []) [] (pass_of 0 [] target.None) no_label no_queries classroom
+    later-passes (flags k) rooms rooms start_state start_state wall [] (end_render_pass ∷ end_encoding ∷ []) [] (pass_of 0 [] None) no_label no_queries classroom
     inside (sets (flags k)) (refl ⨾ refl ⨾ tt) tt
     (starts k) (subst NoneRefused (sym (accepted-long k)) (all-taken long)) (starts k) (subst NoneRefused (sym (accepted-short k)) (all-taken short))
 
@@ -179,7 +175,7 @@ abbrev fetches_in : Board → List Call → List (List (Option Fetch))
 fetches_in k earlier = map (λ (v : View). v.fetches) (found (own (flags k) bare_pass classroom) (draws_in k earlier classroom []))
 
 abbrev from : ℕ → ℕ → ℕ → VertexStepMode → ℕ → Option Fetch
-from location slot stride step byte = some (record { location = location; format = floats; slot = slot; source = some (record { buffer = 7; stride = stride; step = step; first = byte }) })
+from location slot stride step byte = Some (record { location = location; format = floats; slot = slot; source = Some (record { buffer = 7; stride = stride; step = step; first = byte }) })
 
 -- slot 0 from byte 100; slot 1 from byte 20 on, moved on by five, by two and by no instances of 8 bytes
 abbrev moved : ℕ → List (Option Fetch)
@@ -217,15 +213,15 @@ ready = set_render_pipeline two ∷ set_vertex_buffer 0 7 100 ∷ set_vertex_buf
 -- what it has not set differs: the sampler of unit 2, whose number 5 names a sampler that was set before the pass, a buffer, a texture
 others-differ :
     (seen (λ g. g.bindings.samplers 2) wall ready ≡ Some 33 ∷ []) × (seen (λ g. g.bindings.samplers 2) [] ready ≡ None ∷ [])
-    × (seen (λ g. g.bindings.buffers 35345 3) wall ready ≡ some (record { buffer = 5; offset = pos 256; size = pos 64 }) ∷ []) × (seen (λ g. g.bindings.buffers 35345 3) [] ready ≡ none ∷ [])
-    × (seen (λ g. g.bindings.textures 2) wall ready ≡ some (record { texture = 11; target = 3553; aspects = 1; mips = start_range }) ∷ []) × (seen (λ g. g.bindings.textures 2) [] ready ≡ none ∷ [])
+    × (seen (λ g. g.bindings.buffers 35345 3) wall ready ≡ Some (record { buffer = 5; offset = pos 256; size = pos 64 }) ∷ []) × (seen (λ g. g.bindings.buffers 35345 3) [] ready ≡ None ∷ [])
+    × (seen (λ g. g.bindings.textures 2) wall ready ≡ Some (record { texture = 11; target = 3553; aspects = 1; mips = start_range }) ∷ []) × (seen (λ g. g.bindings.textures 2) [] ready ≡ None ∷ [])
 unfolding record_calls shots_from fed book_of enter_group outcome_of smallest some? bad_units among twice test_bit bit_at set_bit without mask_of places_from mask_by tabulate
     buffer_commands sent_of attribute_commands zipped group_commands group_state textures_named samplers_named offsets_used group_over sampler_commands changed_units same_targets
     begin_render_commands attach_colors resolves_from invalidations clear_colors indirect_commands
 others-differ = (refl, refl, refl, refl, refl, refl)
 
 -- the pipeline is needed: without it the draw finds the program of the compute pass
-pipeline-needed : (seen (λ g. g.fixed.program) wall (draw_at 0 ∷ []) ≡ some 9 ∷ []) × (seen (λ g. g.fixed.program) [] (draw_at 0 ∷ []) ≡ none ∷ [])
+pipeline-needed : (seen (λ g. g.fixed.program) wall (draw_at 0 ∷ []) ≡ Some 9 ∷ []) × (seen (λ g. g.fixed.program) [] (draw_at 0 ∷ []) ≡ None ∷ [])
 unfolding record_calls shots_from fed book_of enter_group outcome_of smallest some? bad_units among twice test_bit bit_at set_bit without mask_of places_from mask_by tabulate
     buffer_commands sent_of attribute_commands zipped group_commands group_state textures_named samplers_named offsets_used group_over sampler_commands changed_units same_targets
     begin_render_commands attach_colors resolves_from invalidations clear_colors indirect_commands
@@ -236,8 +232,8 @@ abbrev slot_1_left : List Call
 slot_1_left = set_render_pipeline two ∷ set_vertex_buffer 0 7 100 ∷ set_index_buffer 9 32 Uint16 ∷ set_blend_constants dark ∷ draw_at 0 ∷ []
 
 buffer-needed :
-    (seen (λ g. g.vertices.buffer 1) wall slot_1_left ≡ some (record { binding = record { raw = 4; offset = 64 }; desc = record { step = Instance; stride = 8 } }) ∷ [])
-    × (seen (λ g. g.vertices.buffer 1) [] slot_1_left ≡ none ∷ [])
+    (seen (λ g. g.vertices.buffer 1) wall slot_1_left ≡ Some (record { binding = record { raw = 4; offset = 64 }; desc = record { step = Instance; stride = 8 } }) ∷ [])
+    × (seen (λ g. g.vertices.buffer 1) [] slot_1_left ≡ None ∷ [])
 unfolding record_calls shots_from fed book_of enter_group outcome_of smallest some? bad_units among twice test_bit bit_at set_bit without mask_of places_from mask_by tabulate
     buffer_commands sent_of attribute_commands zipped group_commands group_state textures_named samplers_named offsets_used group_over sampler_commands changed_units same_targets
     begin_render_commands attach_colors resolves_from invalidations clear_colors indirect_commands
@@ -248,7 +244,7 @@ abbrev index_left : List Call
 index_left = set_render_pipeline one ∷ set_vertex_buffer 0 7 100 ∷ set_blend_constants dark ∷ draw_indexed 6 3 (pos 0) 0 1 ∷ []
 
 index-needed :
-    (seen (λ g. g.bindings.index) wall index_left ≡ some 6 ∷ []) × (seen (λ g. g.bindings.index) [] index_left ≡ none ∷ [])
+    (seen (λ g. g.bindings.index) wall index_left ≡ Some 6 ∷ []) × (seen (λ g. g.bindings.index) [] index_left ≡ None ∷ [])
     × (map (λ (x : Shot). x.command) (draws_in layouts wall index_left []) ≡ DrawIndexed 4 5125 3 26 (pos 0) 0 1 None ∷ [])
     × (map (λ (x : Shot). x.command) (draws_in layouts [] index_left []) ≡ DrawIndexed 4 5125 3 24 (pos 0) 0 1 None ∷ [])
 unfolding record_calls shots_from fed book_of enter_group outcome_of smallest some? bad_units among twice test_bit bit_at set_bit without mask_of places_from mask_by tabulate

@@ -3,7 +3,7 @@ use Prim.Native.Nat.{ℕ}
 use mathlib.Core.Path.{◌≡◌, refl, subst}
 use mathlib.Core.Bool.{Bool, true, false, cond, ◌&&◌, ◌||◌}
 use mathlib.Core.List.{List, [], ◌∷◌}
-use mathlib.Core.Option.{Option, some}
+use Rattle.std.specs.Prelude.{Option, None, Some}
 use lib.Dec.{eqb}
 use borrow.Author.Tests.{eqb-true}
 use Rattle.tables.specs.Tabulate.{upd}
@@ -16,7 +16,6 @@ use Rattle.records.specs.declared.command.Command.TheVariants.{ClearStencil, Cle
 use Rattle.records.specs.declared.command.Command.TheVariants.{SetStencilOps, SetDepth, SetDepthBias, ConfigureDepthStencil, SetAlphaToCoverage, SetVertexAttribute}
 use Rattle.records.specs.declared.command.Command.TheVariants.{UnsetVertexAttribute, SetVertexBuffer, SetProgram, SetPrimitive, SetBlendConstant, SetColorTarget, BindBuffer}
 use Rattle.records.specs.declared.command.Command.TheVariants.{BindSampler, BindTexture, BindImage, PushDebugGroup, PopDebugGroup, SetImmediates, SetClipDistances}
-use Rattle.records.specs.declared.command.OptionU32.TheVariants.{None, Some}
 use Rattle.machine.specs.View.{BufferRange}
 use Rattle.machine.specs.Machine.{Gl, between}
 use Rattle.lists.specs.Shots.{settings_after, settings}
@@ -234,7 +233,7 @@ law (SetColorTarget (Some i) t) (fixed depth) g h k = k refl
 law (SetColorTarget (Some i) t) (fixed (target j)) g h k = pick _ _ _ (eqb j i) k
 law (SetColorTarget (Some i) t) (face y) g h k = k refl
 law (BindBuffer ta i b o s) (vertex y) g h k = k refl
-law (BindBuffer ta i b o s) (binding (buffer tb j)) g h k = ranged g.bindings.buffers h.bindings.buffers ta i tb j (some (record { buffer = b; offset = o; size = s })) k
+law (BindBuffer ta i b o s) (binding (buffer tb j)) g h k = ranged g.bindings.buffers h.bindings.buffers ta i tb j (Some (record { buffer = b; offset = o; size = s })) k
 law (BindBuffer ta i b o s) (binding (texture j)) g h k = k refl
 law (BindBuffer ta i b o s) (binding (image j)) g h k = k refl
 law (BindBuffer ta i b o s) (binding (sampler j)) g h k = k refl

@@ -1,5 +1,5 @@
 -- What a command is to who looks at a list. Definitions only.
-use Rattle.std.specs.Prelude.{ℕ, suc, ◌+◌, Bool, true, false, cond, List, [], ◌∷◌, map}
+use Rattle.std.specs.Prelude.{ℕ, suc, ◌+◌, Bool, true, false, cond, List, [], ◌∷◌, map, Option, None, Some}
 use Rattle.records.specs.declared.command.Command.{Command}
 use Rattle.records.specs.declared.command.Command.TheVariants.{Draw, DrawIndexed, DrawIndirect, DrawIndexedIndirect, Dispatch, DispatchIndirect, ClearBuffer, CopyBufferToBuffer}
 use Rattle.records.specs.declared.command.Command.TheVariants.{SetIndexBuffer, BeginQuery, EndQuery, TimestampQuery, CopyQueryResults, ResetFramebuffer, BindAttachment}
@@ -8,8 +8,6 @@ use Rattle.records.specs.declared.command.Command.TheVariants.{ClearStencil, Cle
 use Rattle.records.specs.declared.command.Command.TheVariants.{SetStencilOps, SetDepth, SetDepthBias, ConfigureDepthStencil, SetAlphaToCoverage, SetVertexAttribute}
 use Rattle.records.specs.declared.command.Command.TheVariants.{UnsetVertexAttribute, SetVertexBuffer, SetProgram, SetPrimitive, SetBlendConstant, SetColorTarget, BindBuffer}
 use Rattle.records.specs.declared.command.Command.TheVariants.{BindSampler, BindTexture, BindImage, PushDebugGroup, PopDebugGroup, SetImmediates, SetClipDistances}
-use Rattle.records.specs.declared.command.OptionU32.{OptionU32}
-use Rattle.records.specs.declared.command.OptionU32.TheVariants.{None, Some}
 use Rattle.records.specs.declared.command.Record.{Record}
 use Rattle.lists.specs.declared.class.Class.{Class}
 use Rattle.lists.specs.declared.class.Class.TheVariants as class
@@ -19,7 +17,7 @@ use Rattle.lists.specs.declared.class.Thing.TheVariants.{Attribute, VertexBuffer
 use Rattle.lists.specs.declared.class.Thing.TheVariants.{Primitive, DepthBias, AlphaToCoverage, ClipDistances, DepthStencil, Depth, Target, Targets, StencilFunction, StencilOperations}
 
 -- a colour target by its place, or all of them: `Command::SetColorTarget` of gles/mod.rs, whose place is optional
-abbrev pub target_of : OptionU32 → Thing
+abbrev pub target_of : Option ℕ → Thing
 target_of None = Targets
 target_of (Some i) = Target i
 

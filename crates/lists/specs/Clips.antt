@@ -1,6 +1,5 @@
 -- The counts of clip distances along a list: `Command::SetClipDistances` of gles/mod.rs has the count before and the new one. Definitions only.
-use Rattle.std.specs.Prelude.{ℕ, Bool, true, ◌&&◌, List, [], ◌∷◌, eqb}
-use Rattle.std.proofs.Math.Option.{Option, none, some}
+use Rattle.std.specs.Prelude.{ℕ, Bool, true, ◌&&◌, List, [], ◌∷◌, eqb, Option, None, Some}
 use Rattle.records.specs.declared.command.Command.{Command}
 use Rattle.records.specs.declared.command.Command.TheVariants.{Draw, DrawIndexed, DrawIndirect, DrawIndexedIndirect, Dispatch, DispatchIndirect, ClearBuffer, CopyBufferToBuffer}
 use Rattle.records.specs.declared.command.Command.TheVariants.{SetIndexBuffer, BeginQuery, EndQuery, TimestampQuery, CopyQueryResults, ResetFramebuffer, BindAttachment}
@@ -16,60 +15,60 @@ pub record Clips : Type 0 where
   pub new : ℕ
 
 abbrev pub clip_of : Command → Option Clips
-clip_of (Draw t fv vc fi ic l) = none
-clip_of (DrawIndexed t ty n o bv fi ic l) = none
-clip_of (DrawIndirect t raw o l) = none
-clip_of (DrawIndexedIndirect t ty raw o l) = none
-clip_of (Dispatch a b c) = none
-clip_of (DispatchIndirect raw o) = none
-clip_of (ClearBuffer raw t r) = none
-clip_of (CopyBufferToBuffer a b c d e) = none
-clip_of (SetIndexBuffer raw) = none
-clip_of (BeginQuery q t) = none
-clip_of (EndQuery t) = none
-clip_of (TimestampQuery q) = none
-clip_of (CopyQueryResults r dst t o) = none
-clip_of (ResetFramebuffer d) = none
-clip_of (BindAttachment a v d s) = none
-clip_of (ResolveAttachment a v s) = none
-clip_of (InvalidateAttachments s) = none
-clip_of (SetDrawColorBuffers n) = none
-clip_of (ClearColorF n c) = none
-clip_of (ClearColorU n c) = none
-clip_of (ClearColorI n c) = none
-clip_of (ClearDepth d) = none
-clip_of (ClearStencil s) = none
-clip_of (ClearDepthAndStencil d s) = none
-clip_of (BufferBarrier b u) = none
-clip_of (TextureBarrier u) = none
-clip_of (SetViewport r d) = none
-clip_of (SetScissor r) = none
-clip_of (SetStencilFunc at f r n) = none
-clip_of (SetStencilOps at w o) = none
-clip_of (SetDepth d) = none
-clip_of (SetDepthBias d) = none
-clip_of (ConfigureDepthStencil a) = none
-clip_of (SetAlphaToCoverage a) = none
-clip_of (SetVertexAttribute b d a) = none
-clip_of (UnsetVertexAttribute l) = none
-clip_of (SetVertexBuffer i b d) = none
-clip_of (SetProgram p) = none
-clip_of (SetPrimitive p) = none
-clip_of (SetBlendConstant c) = none
-clip_of (SetColorTarget i t) = none
-clip_of (BindBuffer ta i b o s) = none
-clip_of (BindSampler u s) = none
-clip_of (BindTexture i te ta a mips) = none
-clip_of (BindImage i x) = none
-clip_of (PushDebugGroup r) = none
-clip_of PopDebugGroup = none
-clip_of (SetImmediates d o) = none
-clip_of (SetClipDistances old n) = some (record { old = old; new = n })
+clip_of (Draw t fv vc fi ic l) = None
+clip_of (DrawIndexed t ty n o bv fi ic l) = None
+clip_of (DrawIndirect t raw o l) = None
+clip_of (DrawIndexedIndirect t ty raw o l) = None
+clip_of (Dispatch a b c) = None
+clip_of (DispatchIndirect raw o) = None
+clip_of (ClearBuffer raw t r) = None
+clip_of (CopyBufferToBuffer a b c d e) = None
+clip_of (SetIndexBuffer raw) = None
+clip_of (BeginQuery q t) = None
+clip_of (EndQuery t) = None
+clip_of (TimestampQuery q) = None
+clip_of (CopyQueryResults r dst t o) = None
+clip_of (ResetFramebuffer d) = None
+clip_of (BindAttachment a v d s) = None
+clip_of (ResolveAttachment a v s) = None
+clip_of (InvalidateAttachments s) = None
+clip_of (SetDrawColorBuffers n) = None
+clip_of (ClearColorF n c) = None
+clip_of (ClearColorU n c) = None
+clip_of (ClearColorI n c) = None
+clip_of (ClearDepth d) = None
+clip_of (ClearStencil s) = None
+clip_of (ClearDepthAndStencil d s) = None
+clip_of (BufferBarrier b u) = None
+clip_of (TextureBarrier u) = None
+clip_of (SetViewport r d) = None
+clip_of (SetScissor r) = None
+clip_of (SetStencilFunc at f r n) = None
+clip_of (SetStencilOps at w o) = None
+clip_of (SetDepth d) = None
+clip_of (SetDepthBias d) = None
+clip_of (ConfigureDepthStencil a) = None
+clip_of (SetAlphaToCoverage a) = None
+clip_of (SetVertexAttribute b d a) = None
+clip_of (UnsetVertexAttribute l) = None
+clip_of (SetVertexBuffer i b d) = None
+clip_of (SetProgram p) = None
+clip_of (SetPrimitive p) = None
+clip_of (SetBlendConstant c) = None
+clip_of (SetColorTarget i t) = None
+clip_of (BindBuffer ta i b o s) = None
+clip_of (BindSampler u s) = None
+clip_of (BindTexture i te ta a mips) = None
+clip_of (BindImage i x) = None
+clip_of (PushDebugGroup r) = None
+clip_of PopDebugGroup = None
+clip_of (SetImmediates d o) = None
+clip_of (SetClipDistances old n) = Some (record { old = old; new = n })
 
 -- "the last count": the new count of the last such command, 0 without one
 abbrev pub count_by : ℕ → Option Clips → ℕ
-count_by n none = n
-count_by n (some c) = c.new
+count_by n None = n
+count_by n (Some c) = c.new
 
 unfoldable pub count_from : ℕ → List Command → ℕ
 count_from n [] = n
@@ -80,8 +79,8 @@ last_count cs = count_from 0 cs
 
 -- each old count is the count before it, as the recorder's are
 abbrev pub chains : ℕ → Option Clips → Bool
-chains n none = true
-chains n (some c) = eqb c.old n
+chains n None = true
+chains n (Some c) = eqb c.old n
 
 unfoldable pub chained : ℕ → List Command → Bool
 chained n [] = true

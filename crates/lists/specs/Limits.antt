@@ -1,6 +1,6 @@
 -- The check of a handed-in list: document 02 §3, "A list handed in, here or later, that breaks a limit of document 01 is turned away like a state, a range beyond its run by 7".
 -- The limits are those of document 01; what lies past the count is not looked at. Definitions only.
-use Rattle.std.specs.Prelude.{ℕ, ◌+◌, ◌^◌, Bool, false, ◌&&◌, ◌||◌, List, ltb, leb, length, take}
+use Rattle.std.specs.Prelude.{ℕ, ◌+◌, ◌^◌, Bool, false, ◌&&◌, ◌||◌, List, ltb, leb, length, take, Option, None, Some}
 use Rattle.names.specs.Gl.{GL_COLOR_ATTACHMENT0}
 use Rattle.records.specs.Check.{some?, bad_attribute, bad_descriptor}
 use Rattle.records.specs.declared.command.Command.{Command}
@@ -12,8 +12,6 @@ use Rattle.records.specs.declared.command.Command.TheVariants.{SetStencilOps, Se
 use Rattle.records.specs.declared.command.Command.TheVariants.{UnsetVertexAttribute, SetVertexBuffer, SetProgram, SetPrimitive, SetBlendConstant, SetColorTarget, BindBuffer}
 use Rattle.records.specs.declared.command.Command.TheVariants.{BindSampler, BindTexture, BindImage, PushDebugGroup, PopDebugGroup, SetImmediates, SetClipDistances}
 use Rattle.records.specs.declared.command.ImmediateDesc.{ImmediateDesc}
-use Rattle.records.specs.declared.command.OptionU32.{OptionU32}
-use Rattle.records.specs.declared.command.OptionU32.TheVariants.{None, Some}
 use Rattle.records.specs.declared.command.RangeU32.{RangeU32}
 use Rattle.records.specs.declared.command.Record.{Record}
 use Rattle.records.specs.declared.outcome.Conditions.{Conditions}
@@ -44,7 +42,7 @@ abbrev pub reversed : RangeU32 → Bool
 reversed r = ltb r.end r.start
 
 -- a draw buffer by its place, of which there are 8; without a number it is all of them
-abbrev pub bad_target : OptionU32 → Bool
+abbrev pub bad_target : Option ℕ → Bool
 bad_target None = false
 bad_target (Some i) = leb 8 i
 

@@ -1,9 +1,10 @@
-// The commands in classes: only `class_of` goes through all of them. The contracts cite
+// The commands in classes: only `class_of` goes through all of them, a line each, so that none falls
+// to another's class unseen. The contracts cite
 // specs/Class.antt; proofs/Kept.antt ties the classes to the machine.
 ghost use Rattle.std.specs.Prelude.{◌≡◌};
 ghost use Rattle.lists.specs.Class.{target_of, class_of, draws};
 
-use records::command::{Command, OptionU32};
+use records::command::Command;
 
 // What a setting command overwrites.
 #[derive(Clone, Copy)]
@@ -53,12 +54,12 @@ pub enum Class {
 }
 
 // The colour target of a place, or without one all of them.
-fn target_of(place: OptionU32) -> Thing
+fn target_of(place: Option<u32>) -> Thing
     ensures { result ≡ target_of place }
 {
     match place {
-        OptionU32::None => Thing::Targets,
-        OptionU32::Some(i) => Thing::Target(i),
+        None => Thing::Targets,
+        Some(i) => Thing::Target(i),
     }
 }
 
@@ -126,12 +127,5 @@ pub fn class_of(command: Command) -> Class
 pub fn is_draw(class: Class) -> bool
     ensures { result ≡ draws class }
 {
-    match class {
-        Class::Draw => true,
-        Class::Clear => false,
-        Class::Dispatch => false,
-        Class::Reset => false,
-        Class::Sets(_) => false,
-        Class::Other => false,
-    }
+    matches!(class, Class::Draw)
 }

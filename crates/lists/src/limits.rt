@@ -11,7 +11,7 @@ ghost use Rattle.lists.specs.Survey.{looked_at, first_survey, survey_record, sur
 
 use crate::class::{class_of, is_draw};
 use records::check::{bad_attribute, bad_descriptor, within};
-use records::command::{Command, ImmediateDesc, OptionU32, RangeU32, Record};
+use records::command::{Command, ImmediateDesc, RangeU32, Record};
 use records::limits::{MAX_BYTES, MAX_COMMANDS, MAX_QUERIES};
 use records::outcome::{Conditions, Outcome, outcome_of};
 
@@ -60,31 +60,19 @@ fn keeps() -> Breaks
 fn too_many(many: bool) -> Breaks
     ensures { result ≡ too_many many }
 {
-    Breaks {
-        many,
-        range: false,
-        room: false,
-    }
+    Breaks { many, ..keeps() }
 }
 
 fn out_of_range(range: bool) -> Breaks
     ensures { result ≡ out_of_range range }
 {
-    Breaks {
-        many: false,
-        range,
-        room: false,
-    }
+    Breaks { range, ..keeps() }
 }
 
 fn beyond_run(room: bool) -> Breaks
     ensures { result ≡ beyond_run room }
 {
-    Breaks {
-        many: false,
-        range: false,
-        room,
-    }
+    Breaks { room, ..keeps() }
 }
 
 fn reversed(r: RangeU32) -> bool
@@ -93,13 +81,10 @@ fn reversed(r: RangeU32) -> bool
     r.end < r.start
 }
 
-fn bad_target(place: OptionU32) -> bool
+fn bad_target(place: Option<u32>) -> bool
     ensures { result ≡ bad_target place }
 {
-    match place {
-        OptionU32::None => false,
-        OptionU32::Some(i) => 8 <= i,
-    }
+    place.is_some_and(|i| 8 <= i)
 }
 
 fn bad_attachment(attachment: u32) -> bool
@@ -231,11 +216,8 @@ pub fn survey_between(list: &[Record], from: usize, to: usize, acc: Surveyed) ->
     ensures floats { Each SetsF32 (commands_of (part list.now from to)) }
 {
     let mut a = acc;
-    let mut i = from;
-    while i < to {
-        let r = list[i];
-        a = survey_record(a, i, r);
-        i += 1;
+    for i in from..to {
+        a = survey_record(a, i, list[i]);
     }
     a
 }
@@ -249,13 +231,6 @@ pub fn survey(list: &[Record], used: Used) -> Surveyed
     let n = looked_at(used, room);
     let acc = first_survey(used, room);
     survey_between(list, 0, n, acc)
-}
-
-// The same of a list that is lent to be written: it is left as it was.
-pub fn survey_lent(list: &mut [Record], used: Used) -> Surveyed
-    ensures { (result ≡ survey_of list.old used) × (list.new ≡ list.old) }
-{
-    survey(list, used)
 }
 
 // A limit is broken.

@@ -3,7 +3,7 @@ use Prim.Native.Nat.{ℕ, ◌<◌}
 use mathlib.Core.Path.{◌≡◌, refl, sym, ap, ap₂, ◌∙◌}
 use mathlib.Core.Bool.{Bool, true, false, cond, not, ◌&&◌, ◌||◌}
 use mathlib.Core.List.{List, [], ◌∷◌, map}
-use mathlib.Core.Option.{none, some}
+use Rattle.std.specs.Prelude.{None, Some}
 use native.Mathlib.Omega.{arith}
 use native.Mathlib.Decide.{ℕ_discrete}
 use lib.Dec.{eqb}
@@ -61,10 +61,10 @@ pub both_ways : (a : Bool) → (a ≡ true → ⊥) → a ≡ false
 both_ways true h = absurd (h refl)
 both_ways false h = refl
 
-pub some-none : {A B : Type 0} {a : A} → some a ≡ none → B
+pub some-none : {A B : Type 0} {a : A} → Some a ≡ None → B
 some-none e = let z : ◌≡◌ {A = ℕ} 0 1 = cc in absurd (omega arith)
 
-pub none-some : {A B : Type 0} {a : A} → none ≡ some a → B
+pub none-some : {A B : Type 0} {a : A} → None ≡ Some a → B
 none-some e = some-none (sym e)
 
 -- ---- a property of each element of a list

@@ -3,15 +3,13 @@ use Prim.Native.Nat.{ℕ}
 use mathlib.Core.Path.{◌≡◌, refl}
 use mathlib.Core.Bool.{true, false}
 use mathlib.Core.List.{List, [], ◌∷◌, map}
-use mathlib.Core.Option.{Option, none, some}
+use Rattle.std.specs.Prelude.{Option, None, Some}
 use lib.IntN.{pos}
 use Rattle.tables.specs.Tabulate.{tabulate}
 use Rattle.records.specs.declared.command.ColorTargetDesc.{ColorTargetDesc}
 use Rattle.records.specs.declared.command.Command.{Command}
 use Rattle.records.specs.declared.command.Command.TheVariants.{BindSampler, DispatchIndirect, Draw, ResetFramebuffer, SetClipDistances, SetColorTarget, SetDepthBias, SetStencilFunc}
 use Rattle.records.specs.declared.command.DepthBiasState.{DepthBiasState}
-use Rattle.records.specs.declared.command.OptionBlend.TheVariants as blend
-use Rattle.records.specs.declared.command.OptionU32.TheVariants.{None, Some}
 use Rattle.machine.specs.View.{StencilFunc}
 use Rattle.machine.specs.Machine.{Gl, Shot, fresh, play}
 
@@ -35,7 +33,7 @@ sampler-set = refl
 
 -- a target by its number, and without a number all of them
 abbrev target : ℕ → ColorTargetDesc
-target mask = record { mask = mask; blend = blend.None }
+target mask = record { mask = mask; blend = None }
 
 one-target : tabulate 3 (after (SetColorTarget (Some 1) (target 3) ∷ [])).fixed.target ≡ target 15 ∷ target 3 ∷ target 15 ∷ []
 unfolding tabulate
@@ -47,12 +45,12 @@ all-targets = refl
 
 -- OpenGL ES 3.2, 15.1.2: GL_FRONT 1028, GL_BACK 1029, FRONT_AND_BACK 1032
 abbrev func : ℕ → Option StencilFunc
-func n = some (record { function = 519; reference = n; read = 255 })
+func n = Some (record { function = 519; reference = n; read = 255 })
 
 abbrev faces : List Command → List (Option StencilFunc)
 faces l = (after l).faces.front ∷ (after l).faces.back ∷ []
 
-front-face : faces (SetStencilFunc 1028 519 1 255 ∷ []) ≡ func 1 ∷ none ∷ []
+front-face : faces (SetStencilFunc 1028 519 1 255 ∷ []) ≡ func 1 ∷ None ∷ []
 front-face = refl
 
 back-face : faces (SetStencilFunc 1032 519 1 255 ∷ SetStencilFunc 1029 519 2 255 ∷ []) ≡ func 1 ∷ func 2 ∷ []

@@ -1,11 +1,8 @@
 -- What a draw finds on the machine: "read off the machine at its pipeline's own attribute locations and target places; what earlier pipelines left at others is no part of it". Definitions only.
-use Rattle.std.specs.Prelude.{ℕ, ◌+◌, Bool, cond, List, [], map, length, take}
-use Rattle.std.proofs.Math.Option.{Option, none, some}
+use Rattle.std.specs.Prelude.{ℕ, ◌+◌, Bool, cond, List, [], map, length, take, Option, None, Some}
 use Rattle.tables.specs.Tabulate.{tabulate}
 use Rattle.mask.specs.Mask.{test_bit}
 use Rattle.records.specs.declared.command.AttributeDesc.{AttributeDesc}
-use Rattle.records.specs.declared.command.OptionU32.{OptionU32}
-use Rattle.records.specs.declared.command.OptionU32.TheVariants.{None, Some}
 use Rattle.records.specs.declared.command.VertexBufferDesc.{VertexBufferDesc}
 use Rattle.records.specs.declared.pipeline.RenderPipeline.{RenderPipeline}
 use Rattle.machine.specs.View.{Source, Fetch, Stencil, View}
@@ -13,19 +10,19 @@ use Rattle.machine.specs.Machine.{Attribute, VertexBuffer, Vertices, Faces, Shot
 
 -- the source of an attribute with no buffer of its own: its slot's vertex buffer, the offsets added
 abbrev pub slot_source : ℕ → Option VertexBuffer → Option Source
-slot_source offset none = none
-slot_source offset (some b) = some (record { buffer = b.binding.raw; stride = b.desc.stride; step = b.desc.step; first = offset + b.binding.offset })
+slot_source offset None = None
+slot_source offset (Some b) = Some (record { buffer = b.binding.raw; stride = b.desc.stride; step = b.desc.step; first = offset + b.binding.offset })
 
 -- with a buffer of its own the attribute gives all
-abbrev pub source_of : OptionU32 → VertexBufferDesc → ℕ → Option VertexBuffer → Option Source
+abbrev pub source_of : Option ℕ → VertexBufferDesc → ℕ → Option VertexBuffer → Option Source
 source_of None d offset slot = slot_source offset slot
-source_of (Some raw) d offset slot = some (record { buffer = raw; stride = d.stride; step = d.step; first = offset })
+source_of (Some raw) d offset slot = Some (record { buffer = raw; stride = d.stride; step = d.step; first = offset })
 
 -- the fetch at a location
 abbrev pub fetch_of : ℕ → (ℕ → Option VertexBuffer) → Option Attribute → Option Fetch
-fetch_of l buffer none = none
-fetch_of l buffer (some a) =
-    some
+fetch_of l buffer None = None
+fetch_of l buffer (Some a) =
+    Some
     (record {
       location = l;
       format = a.attribute.format_desc;
@@ -38,24 +35,24 @@ fetch_at v l = fetch_of l v.buffer (v.attribute l)
 
 -- ---- the pipeline's own places
 abbrev pub attributes_by : Option RenderPipeline → List AttributeDesc
-attributes_by none = []
-attributes_by (some p) = take p.vertex_attribute_count p.vertex_attributes
+attributes_by None = []
+attributes_by (Some p) = take p.vertex_attribute_count p.vertex_attributes
 
 abbrev pub targets_by : Option RenderPipeline → ℕ
-targets_by none = 0
-targets_by (some p) = length (take p.color_target_count p.color_targets)
+targets_by None = 0
+targets_by (Some p) = length (take p.color_target_count p.color_targets)
 
 -- ---- depth and stencil: the last `ConfigureDepthStencil` has a bit for each, 1 of the depth and 2 of the stencil
 abbrev pub flag_at : ℕ → Option ℕ → Option Bool
-flag_at i none = none
-flag_at i (some aspects) = some (test_bit aspects i)
+flag_at i None = None
+flag_at i (Some aspects) = Some (test_bit aspects i)
 
 abbrev pub where? : {A : Type 0} → Option Bool → Option A → Option A
-where? none x = none
-where? (some t) x = cond t x none
+where? None x = None
+where? (Some t) x = cond t x None
 
 abbrev pub faces_of : Faces → Option Stencil
-faces_of f = some (record { front = f.front; back = f.back; front_ops = f.front_ops; back_ops = f.back_ops })
+faces_of f = Some (record { front = f.front; back = f.back; front_ops = f.front_ops; back_ops = f.back_ops })
 
 -- the view that a draw by this pipeline finds
 abbrev pub view_of : Option RenderPipeline → Shot → View
@@ -68,7 +65,7 @@ view_of p s =
       textures = s.gl.bindings.textures;
       images = s.gl.bindings.images;
       samplers = tabulate 16 s.gl.bindings.samplers;
-      index = cond s.indexed s.gl.bindings.index none;
+      index = cond s.indexed s.gl.bindings.index None;
       viewport = s.gl.screen.viewport;
       scissor = s.gl.screen.scissor;
       blend = s.gl.screen.blend;

@@ -1,7 +1,6 @@
 -- The GL machine: document 01, "The command list": "On a fresh machine nothing is bound ...". "A setting command overwrites the thing it names, other commands nothing". Definitions only.
 -- It knows commands and OpenGL ES, and nothing of the recorder.
-use Rattle.std.specs.Prelude.{ℕ, Bool, true, false, cond, not, ◌&&◌, ◌||◌, List, [], ◌∷◌, ◌++◌, eqb, ltb, pos}
-use Rattle.std.proofs.Math.Option.{Option, none, some}
+use Rattle.std.specs.Prelude.{ℕ, Bool, true, false, cond, not, ◌&&◌, ◌||◌, List, [], ◌∷◌, ◌++◌, eqb, ltb, pos, Option, None, Some}
 use Rattle.std.specs.Float.{binary32}
 use Rattle.std.specs.Float.Ieee.{of_bits}
 use Rattle.tables.specs.Tabulate.{upd}
@@ -15,9 +14,6 @@ use Rattle.records.specs.declared.command.ColorTargetDesc.{ColorTargetDesc}
 use Rattle.records.specs.declared.command.DepthBiasState.{DepthBiasState}
 use Rattle.records.specs.declared.command.DepthState.{DepthState}
 use Rattle.records.specs.declared.command.ImageBinding.{ImageBinding}
-use Rattle.records.specs.declared.command.OptionBlend.TheVariants as blend
-use Rattle.records.specs.declared.command.OptionU32.{OptionU32}
-use Rattle.records.specs.declared.command.OptionU32.TheVariants.{None, Some}
 use Rattle.records.specs.declared.command.RectI32.{RectI32}
 use Rattle.records.specs.declared.command.VertexBufferDesc.{VertexBufferDesc}
 use Rattle.machine.specs.View.{Stage, before, first, later, BufferRange, TextureBinding, Viewport, StencilFunc, FaceOps}
@@ -30,7 +26,7 @@ onward later = later
 
 -- a vertex attribute at its location: its buffer (none where the board has layouts), description and format
 pub record Attribute : Type 0 where
-  pub buffer : OptionU32
+  pub buffer : Option ℕ
   pub desc : VertexBufferDesc
   pub attribute : AttributeDesc
 
@@ -49,7 +45,7 @@ pub record Bindings : Type 0 where
   pub buffers : ℕ → ℕ → Option BufferRange
   pub textures : ℕ → Option TextureBinding
   pub images : ℕ → Option ImageBinding
-  pub samplers : ℕ → OptionU32
+  pub samplers : ℕ → Option ℕ
   pub index : Option ℕ
 
 -- viewport, scissor and blend constants
@@ -100,26 +96,26 @@ pub record Machine : Type 0 where
 abbrev pub fresh_gl : Gl
 fresh_gl =
     record {
-      vertices = record { attribute = λ l. none; buffer = λ i. none };
-      bindings = record { buffers = λ t i. none; textures = λ i. none; images = λ i. none; samplers = λ u. None; index = none };
+      vertices = record { attribute = λ l. None; buffer = λ i. None };
+      bindings = record { buffers = λ t i. None; textures = λ i. None; images = λ i. None; samplers = λ u. None; index = None };
       screen =
           record {
-            viewport = none;
-            scissor = none;
+            viewport = None;
+            scissor = None;
             blend = record { r = of_bits binary32 0; g = of_bits binary32 0; b = of_bits binary32 0; a = of_bits binary32 0 };
           };
       fixed =
           record {
-            program = none;
-            primitive = none;
+            program = None;
+            primitive = None;
             bias = record { constant = pos 0; slope_scale = 0; clamp = 0 };
             alpha = false;
-            target = λ i. record { mask = 15; blend = blend.None };
+            target = λ i. record { mask = 15; blend = None };
             clip = λ i. false;
-            aspects = none;
-            depth = none;
+            aspects = None;
+            depth = None;
           };
-      faces = record { front = none; back = none; front_ops = none; back_ops = none };
+      faces = record { front = None; back = None; front_ops = None; back_ops = None };
     }
 
 abbrev pub fresh : Machine
@@ -146,28 +142,28 @@ abbrev pub put_attribute : ℕ → Option Attribute → Vertices → Vertices
 put_attribute l a v = record { attribute = upd v.attribute l a; buffer = v.buffer }
 
 abbrev pub put_buffer : ℕ → VertexBuffer → Vertices → Vertices
-put_buffer i b v = record { attribute = v.attribute; buffer = upd v.buffer i (some b) }
+put_buffer i b v = record { attribute = v.attribute; buffer = upd v.buffer i (Some b) }
 
 abbrev pub put_range : ℕ → ℕ → BufferRange → Bindings → Bindings
-put_range t i r b = record { buffers = upd b.buffers t (upd (b.buffers t) i (some r)); textures = b.textures; images = b.images; samplers = b.samplers; index = b.index }
+put_range t i r b = record { buffers = upd b.buffers t (upd (b.buffers t) i (Some r)); textures = b.textures; images = b.images; samplers = b.samplers; index = b.index }
 
 abbrev pub put_texture : ℕ → TextureBinding → Bindings → Bindings
-put_texture i t b = record { buffers = b.buffers; textures = upd b.textures i (some t); images = b.images; samplers = b.samplers; index = b.index }
+put_texture i t b = record { buffers = b.buffers; textures = upd b.textures i (Some t); images = b.images; samplers = b.samplers; index = b.index }
 
 abbrev pub put_image : ℕ → ImageBinding → Bindings → Bindings
-put_image i x b = record { buffers = b.buffers; textures = b.textures; images = upd b.images i (some x); samplers = b.samplers; index = b.index }
+put_image i x b = record { buffers = b.buffers; textures = b.textures; images = upd b.images i (Some x); samplers = b.samplers; index = b.index }
 
-abbrev pub put_sampler : ℕ → OptionU32 → Bindings → Bindings
+abbrev pub put_sampler : ℕ → Option ℕ → Bindings → Bindings
 put_sampler u s b = record { buffers = b.buffers; textures = b.textures; images = b.images; samplers = upd b.samplers u s; index = b.index }
 
 abbrev pub put_index : ℕ → Bindings → Bindings
-put_index raw b = record { buffers = b.buffers; textures = b.textures; images = b.images; samplers = b.samplers; index = some raw }
+put_index raw b = record { buffers = b.buffers; textures = b.textures; images = b.images; samplers = b.samplers; index = Some raw }
 
 abbrev pub put_program : ℕ → Fixed → Fixed
-put_program p f = record { program = some p; primitive = f.primitive; bias = f.bias; alpha = f.alpha; target = f.target; clip = f.clip; aspects = f.aspects; depth = f.depth }
+put_program p f = record { program = Some p; primitive = f.primitive; bias = f.bias; alpha = f.alpha; target = f.target; clip = f.clip; aspects = f.aspects; depth = f.depth }
 
 abbrev pub put_primitive : PrimitiveState → Fixed → Fixed
-put_primitive p f = record { program = f.program; primitive = some p; bias = f.bias; alpha = f.alpha; target = f.target; clip = f.clip; aspects = f.aspects; depth = f.depth }
+put_primitive p f = record { program = f.program; primitive = Some p; bias = f.bias; alpha = f.alpha; target = f.target; clip = f.clip; aspects = f.aspects; depth = f.depth }
 
 abbrev pub put_bias : DepthBiasState → Fixed → Fixed
 put_bias d f = record { program = f.program; primitive = f.primitive; bias = d; alpha = f.alpha; target = f.target; clip = f.clip; aspects = f.aspects; depth = f.depth }
@@ -176,7 +172,7 @@ abbrev pub put_alpha : Bool → Fixed → Fixed
 put_alpha a f = record { program = f.program; primitive = f.primitive; bias = f.bias; alpha = a; target = f.target; clip = f.clip; aspects = f.aspects; depth = f.depth }
 
 -- one target, or with no number all of them
-abbrev pub put_target : OptionU32 → ColorTargetDesc → Fixed → Fixed
+abbrev pub put_target : Option ℕ → ColorTargetDesc → Fixed → Fixed
 put_target None t f = record { program = f.program; primitive = f.primitive; bias = f.bias; alpha = f.alpha; target = λ i. t; clip = f.clip; aspects = f.aspects; depth = f.depth }
 put_target (Some i) t f = record { program = f.program; primitive = f.primitive; bias = f.bias; alpha = f.alpha; target = upd f.target i t; clip = f.clip; aspects = f.aspects; depth = f.depth }
 
@@ -191,14 +187,14 @@ abbrev pub put_clip : ℕ → ℕ → Fixed → Fixed
 put_clip old n f = record { program = f.program; primitive = f.primitive; bias = f.bias; alpha = f.alpha; target = f.target; clip = switched old n f.clip; aspects = f.aspects; depth = f.depth }
 
 abbrev pub put_aspects : ℕ → Fixed → Fixed
-put_aspects a f = record { program = f.program; primitive = f.primitive; bias = f.bias; alpha = f.alpha; target = f.target; clip = f.clip; aspects = some a; depth = f.depth }
+put_aspects a f = record { program = f.program; primitive = f.primitive; bias = f.bias; alpha = f.alpha; target = f.target; clip = f.clip; aspects = Some a; depth = f.depth }
 
 abbrev pub put_depth : DepthState → Fixed → Fixed
-put_depth d f = record { program = f.program; primitive = f.primitive; bias = f.bias; alpha = f.alpha; target = f.target; clip = f.clip; aspects = f.aspects; depth = some d }
+put_depth d f = record { program = f.program; primitive = f.primitive; bias = f.bias; alpha = f.alpha; target = f.target; clip = f.clip; aspects = f.aspects; depth = Some d }
 
 -- OpenGL ES 3.2, 15.1.2: GL_FRONT (1028) and GL_BACK (1029) name one face, GL_FRONT_AND_BACK (1032) both, and no other number names one
 abbrev pub on_face : {A : Type 0} → ℕ → ℕ → A → Option A → Option A
-on_face own face x old = cond (eqb face own || eqb face 1032) (some x) old
+on_face own face x old = cond (eqb face own || eqb face 1032) (Some x) old
 
 abbrev pub put_func : ℕ → StencilFunc → Faces → Faces
 put_func face x f = record { front = on_face 1028 face x f.front; back = on_face 1029 face x f.back; front_ops = f.front_ops; back_ops = f.back_ops }
@@ -243,16 +239,16 @@ exec m (ClearStencil s) = m
 exec m (ClearDepthAndStencil d s) = m
 exec m (BufferBarrier b u) = m
 exec m (TextureBarrier u) = m
-exec m (SetViewport r d) = with_screen (record { viewport = some (record { rect = r; depth = d }); scissor = m.gl.screen.scissor; blend = m.gl.screen.blend }) m
-exec m (SetScissor r) = with_screen (record { viewport = m.gl.screen.viewport; scissor = some r; blend = m.gl.screen.blend }) m
+exec m (SetViewport r d) = with_screen (record { viewport = Some (record { rect = r; depth = d }); scissor = m.gl.screen.scissor; blend = m.gl.screen.blend }) m
+exec m (SetScissor r) = with_screen (record { viewport = m.gl.screen.viewport; scissor = Some r; blend = m.gl.screen.blend }) m
 exec m (SetStencilFunc face f r k) = with_faces (put_func face (record { function = f; reference = r; read = k }) m.gl.faces) m
 exec m (SetStencilOps face w o) = with_faces (put_ops face (record { write = w; ops = o }) m.gl.faces) m
 exec m (SetDepth d) = with_fixed (put_depth d m.gl.fixed) m
 exec m (SetDepthBias d) = with_fixed (put_bias d m.gl.fixed) m
 exec m (ConfigureDepthStencil a) = with_fixed (put_aspects a m.gl.fixed) m
 exec m (SetAlphaToCoverage a) = with_fixed (put_alpha a m.gl.fixed) m
-exec m (SetVertexAttribute b d a) = with_vertices (put_attribute a.location (some (record { buffer = b; desc = d; attribute = a })) m.gl.vertices) m
-exec m (UnsetVertexAttribute l) = with_vertices (put_attribute l none m.gl.vertices) m
+exec m (SetVertexAttribute b d a) = with_vertices (put_attribute a.location (Some (record { buffer = b; desc = d; attribute = a })) m.gl.vertices) m
+exec m (UnsetVertexAttribute l) = with_vertices (put_attribute l None m.gl.vertices) m
 exec m (SetVertexBuffer i b d) = with_vertices (put_buffer i (record { binding = b; desc = d }) m.gl.vertices) m
 exec m (SetProgram p) = with_fixed (put_program p m.gl.fixed) m
 exec m (SetPrimitive p) = with_fixed (put_primitive p m.gl.fixed) m

@@ -1,6 +1,5 @@
 -- What a draw finds: document 01, "The command list", "By the book each finds its command ... and program; fetches ...; bindings ...; fixed settings". Definitions only.
-use Rattle.std.specs.Prelude.{ℕ, Bool, List, ℤ}
-use Rattle.std.proofs.Math.Option.{Option}
+use Rattle.std.specs.Prelude.{ℕ, Bool, List, ℤ, Option}
 use Rattle.names.specs.declared.gl.PrimitiveState.{PrimitiveState}
 use Rattle.names.specs.declared.gl.StencilOps.{StencilOps}
 use Rattle.records.specs.declared.command.Command.{Command}
@@ -10,7 +9,6 @@ use Rattle.records.specs.declared.command.DepthBiasState.{DepthBiasState}
 use Rattle.records.specs.declared.command.DepthRange.{DepthRange}
 use Rattle.records.specs.declared.command.DepthState.{DepthState}
 use Rattle.records.specs.declared.command.ImageBinding.{ImageBinding}
-use Rattle.records.specs.declared.command.OptionU32.{OptionU32}
 use Rattle.records.specs.declared.command.RangeU32.{RangeU32}
 use Rattle.records.specs.declared.command.RectI32.{RectI32}
 use Rattle.records.specs.declared.command.VertexFormatDesc.{VertexFormatDesc}
@@ -77,7 +75,7 @@ pub record View : Type 0 where
   pub buffers : ℕ → ℕ → Option BufferRange
   pub textures : ℕ → Option TextureBinding
   pub images : ℕ → Option ImageBinding
-  pub samplers : List OptionU32
+  pub samplers : List (Option ℕ)
   pub index : Option ℕ
   -- viewport, scissor, blend constants
   pub viewport : Option Viewport

@@ -1,6 +1,6 @@
 -- A mask whose place i is in it where a function says so, for the places below n: what a loop over an array makes. Assumes nothing.
--- `by-at`: the function is what the mask says. `by_next`: one more place. `by-lt`: no place from n on. `by-same`: a mask is made of its own places.
-use Rattle.std.specs.Prelude.{ℕ, suc, ◌^◌, ◌≤◌, ◌<◌, ◌≡◌, refl, Bool, true, false, ◌||◌, ◌&&◌, eqb}
+-- `by-at`: the function is what the mask says. `by_next`, `grown`: one more place. `by-lt`: no place from n on. `by-same`: a mask is made of its own places.
+use Rattle.std.specs.Prelude.{ℕ, suc, ◌+◌, ◌^◌, ◌≤◌, ◌<◌, ◌≡◌, refl, Bool, true, false, ◌||◌, ◌&&◌, eqb}
 use Rattle.std.proofs.Common.{sym, ap, ◌∙◌, subst, lt_of_lt_of_le, arith, pow_mono, eq-eqb, ne_eqb}
 use Rattle.std.proofs.Math.Decide.{ℕ_discrete}
 use Rattle.tables.specs.Tabulate.{tabulate, long, at_place, alike}
@@ -70,3 +70,26 @@ by_next i f h =
     at : (j : ℕ) → j < suc i → Dec (j ≡ i) → (test_bit (mask_by i f) j || (f i && eqb j i)) ≡ f j
     at j l (yes e) = rw (eq-eqb j i e, by-beyond i f j (omega arith)) (and-true (f i) ∙ ap f (sym e))
     at j l (no ne) = rw (ne_eqb j i ne, and-false (f i), or-false (test_bit (mask_by i f) j)) (by-at i f j (omega arith))
+
+-- a mask of i places, place i put in where b says so, has i + 1
+pub set-if-grown : (b : Bool) (i m : ℕ) → m < 2 ^ i → i < 32 → set_bit_if b m i < 2 ^ (i + 1)
+set-if-grown b i m h l = set-if-lt b (i + 1) m i (lt_of_lt_of_le h (pow_mono (omega arith))) (omega arith) (omega arith)
+
+-- what holds of each place below i and of b at place i holds of each place below i + 1
+pub grown : (P : ℕ → Bool → Type 0) (b : Bool) (i m : ℕ) → i < 32 → m < 2 ^ i → P i b → ((j : ℕ) → j < i → P j (test_bit m j))
+    → (j : ℕ) → j < i + 1 → P j (test_bit (set_bit_if b m i) j)
+grown P b i m l h new old j k = go (ℕ_discrete j i)
+  where
+    here : (b : Bool) → b ≡ (false || (b && true))
+    here true = refl
+    here false = refl
+
+    there : (b t : Bool) → t ≡ (t || (b && false))
+    there true true = refl
+    there true false = refl
+    there false true = refl
+    there false false = refl
+
+    go : Dec (j ≡ i) → P j (test_bit (set_bit_if b m i) j)
+    go (yes e) = rw (test-set-if b m j i l, eq-eqb j i e, test-beyond i m j h (omega arith)) (subst (P j) (here b) (subst (λ (k : ℕ). P k b) (sym e) new))
+    go (no ne) = rw (test-set-if b m j i l, ne_eqb j i ne) (subst (P j) (there b (test_bit m j)) (old j (omega arith)))

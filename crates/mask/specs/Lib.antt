@@ -1,3 +1,4 @@
 pub mod Mask
+pub mod Visit
 pub mod Laws
 pub mod By

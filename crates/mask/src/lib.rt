@@ -2,10 +2,13 @@
 // more. The contracts cite specs/Mask.antt; specs/Laws.antt has the laws of these definitions.
 #![tactic(auto)]
 
-ghost use Rattle.std.specs.Prelude.{◌≡◌, take, get_or};
+ghost use Rattle.std.specs.Prelude.{ℕ, Bool, ◌^◌, ◌≤◌, ◌<◌, ◌≡◌, length, get_or};
 ghost use Rattle.std.specs.Int.Bits.{bit_and, bit_or};
 ghost use Rattle.std.specs.Int.Count.{ones};
+ghost use Rattle.mask.specs.By.{mask_by};
 ghost use Rattle.mask.specs.Mask.{test_bit, bit_at, set_bit, set_bit_if, clear_bit, without as without_of, lowest as lowest_of, rest as rest_of, places};
+ghost use Rattle.std.specs.Iterator.{YieldsFirst, item_count};
+ghost use Rattle.mask.specs.Visit.{places_left};
 
 // The mask whose only place is i.
 pub(crate) fn bit(i: u32) -> u32
@@ -38,6 +41,21 @@ pub fn clear(m: u32, i: u32) -> u32
     m & !bit(i)
 }
 
+// The places below n where f says so.
+pub fn mask_where<F: Fn(u32) -> bool>(n: u32, f: F) -> u32
+    requires fits { n ≤ 32 }
+    requires calls { (i : ℕ) → i < n → F.pre f i }
+    ensures below { result < 2 ^ n }
+    ensures places { (i : ℕ) → i < n → F.post f i (test_bit result i) }
+    ensures made { (g : ℕ → Bool) → ((i : ℕ) (b : Bool) → i < n → F.post f i b → b ≡ g i) → result ≡ mask_by n g }
+{
+    let mut m: u32 = 0;
+    for i in 0..n {
+        m = set_if(m, i, f(i));
+    }
+    m
+}
+
 // The places of a that are not in b.
 pub fn without(a: u32, b: u32) -> u32
     ensures { result ≡ without_of a b }
@@ -49,14 +67,14 @@ pub fn without(a: u32, b: u32) -> u32
 pub fn count(m: u32) -> u32
     ensures { result ≡ ones m }
 {
-    u32::count_ones(m)
+    m.count_ones()
 }
 
 // The lowest place; 32 where there is none.
 pub fn lowest(m: u32) -> u32
     ensures { result ≡ lowest_of m }
 {
-    u32::trailing_zeros(m)
+    m.trailing_zeros()
 }
 
 // The mask without its lowest place.
@@ -74,35 +92,38 @@ pub fn nth(m: u32, k: u32) -> u32
         return 32;
     }
     let mut left = m;
-    let mut j: u32 = 0;
-    while j < k {
+    for _ in 0..k {
         left = rest(left);
-        j = j + 1;
     }
     lowest(left)
 }
 
-// The places of a mask, ascending: the first `count` elements of `at`.
-#[derive(Drop)]
+// The places of a mask that are still to come, ascending.
+#[derive(Clone, Copy, Debug, PartialEq, Eq)]
 pub struct Places {
-    pub at: [u32; 32],
-    pub count: usize,
+    left: u32,
+}
+
+impl Iterator for Places {
+    type Item = u32;
+
+    ghost next_gives = { YieldsFirst places_left };
+
+    ghost remaining = { item_count places_left };
+
+    fn next(&mut self) -> Option<u32> {
+        if self.left == 0 {
+            return None;
+        }
+        let place = lowest(self.left);
+        self.left = rest(self.left);
+        Some(place)
+    }
 }
 
 pub fn visit(m: u32) -> Places
-    ensures { (take result.count result.at ≡ places m) × (result.count ≡ ones m) }
+    ensures places { places_left result ≡ places m }
+    ensures count { length (places_left result) ≡ ones m }
 {
-    let mut p = Places {
-        at: [0; 32],
-        count: 0,
-    };
-    let mut left = m;
-    while left != 0 {
-        let i = u32::trailing_zeros(left);
-        let n = p.count;
-        p.at[n] = i;
-        p.count = n + 1;
-        left = left & (left - 1);
-    }
-    p
+    Places { left: m }
 }

@@ -1,6 +1,6 @@
 -- WebGPU's words for its names, as bytes: the enumerations GPUCompareFunction, GPUPrimitiveTopology, GPUFrontFace, GPUCullMode, GPUStencilOperation, GPUBlendFactor and GPUBlendOperation.
 -- Definitions only.
-use Rattle.std.specs.Prelude.{ℕ, ◌-◌, List, ◌++◌, length, replicate}
+use Rattle.std.specs.Prelude.{ℕ, List}
 use Rattle.names.specs.declared.wgt.CompareFunction.{CompareFunction}
 use Rattle.names.specs.declared.wgt.CompareFunction.TheVariants.{Never, Less, Equal, LessEqual, Greater, NotEqual, GreaterEqual, Always}
 use Rattle.names.specs.declared.wgt.PrimitiveTopology.{PrimitiveTopology}
@@ -17,11 +17,6 @@ use Rattle.names.specs.declared.wgt.BlendFactor.TheVariants.{Constant, OneMinusC
 use Rattle.names.specs.declared.wgt.BlendOperation.{BlendOperation}
 use Rattle.names.specs.declared.wgt.BlendOperation.TheVariants.{Add, Subtract, ReverseSubtract, Min, Max}
 use Rattle.names.specs.Ascii.{ascii}
-use Rattle.name_reads.specs.declared.spelling.Spelling.{Spelling}
-
--- a word in twenty bytes, blanks after it, and its length; the longest word has twenty
-abbrev pub spelled : List ℕ → Spelling
-spelled w = record { bytes = w ++ replicate (20 - length w) 32; length = length w }
 
 -- GPUCompareFunction
 abbrev pub compare_word : CompareFunction → List ℕ

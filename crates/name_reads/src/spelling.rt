@@ -1,256 +1,208 @@
-// WebGPU's words for its names, as bytes. The contracts cite specs/Spelling.antt.
-ghost use Rattle.std.specs.Prelude.{◌≡◌};
-ghost use Rattle.name_reads.specs.Spelling.{spelled, compare_word, topology_word, front_word, cull_word, stencil_op_word, factor_word, operation_word};
+// WebGPU's words for its names. The contracts cite specs/Spelling.antt.
+ghost use Rattle.std.specs.Prelude.{◌≡◌, ℕ, List};
+ghost use Rattle.name_reads.specs.Spelling.{compare_word, topology_word, front_word, cull_word, stencil_op_word, factor_word, operation_word};
 
+use names::name::Name;
 use names::wgt::{
     BlendFactor, BlendOperation, CompareFunction, CullMode, FrontFace, PrimitiveTopology,
     StencilOperation,
 };
 
-// A word: the first `length` of the bytes; blanks follow it.
-#[derive(Clone, Copy)]
-pub struct Spelling {
-    pub bytes: [u8; 20],
-    pub length: usize,
+pub trait Spelled: Name + 'static {
+    ghost word: { Self → List ℕ };
+
+    // The names in WebGPU's order.
+    fn names() -> &'static [Self]
+        ensures { result.now ≡ Self.entries.names };
+
+    // WebGPU's word for the name.
+    fn spell(self) -> &'static str
+        ensures { result.now ≡ word self };
 }
 
-pub fn spell_compare_func(name: CompareFunction) -> Spelling
-    ensures { result ≡ spelled (compare_word name) }
-{
-    match name {
-        CompareFunction::Never => Spelling {
-            bytes: *b"never               ",
-            length: 5,
-        },
-        CompareFunction::Less => Spelling {
-            bytes: *b"less                ",
-            length: 4,
-        },
-        CompareFunction::Equal => Spelling {
-            bytes: *b"equal               ",
-            length: 5,
-        },
-        CompareFunction::LessEqual => Spelling {
-            bytes: *b"less-equal          ",
-            length: 10,
-        },
-        CompareFunction::Greater => Spelling {
-            bytes: *b"greater             ",
-            length: 7,
-        },
-        CompareFunction::NotEqual => Spelling {
-            bytes: *b"not-equal           ",
-            length: 9,
-        },
-        CompareFunction::GreaterEqual => Spelling {
-            bytes: *b"greater-equal       ",
-            length: 13,
-        },
-        CompareFunction::Always => Spelling {
-            bytes: *b"always              ",
-            length: 6,
-        },
+impl Spelled for CompareFunction {
+    ghost word = { compare_word };
+
+    fn names() -> &'static [CompareFunction] {
+        &[
+            CompareFunction::Never,
+            CompareFunction::Less,
+            CompareFunction::Equal,
+            CompareFunction::LessEqual,
+            CompareFunction::Greater,
+            CompareFunction::NotEqual,
+            CompareFunction::GreaterEqual,
+            CompareFunction::Always,
+        ]
+    }
+
+    fn spell(self) -> &'static str {
+        match self {
+            CompareFunction::Never => "never",
+            CompareFunction::Less => "less",
+            CompareFunction::Equal => "equal",
+            CompareFunction::LessEqual => "less-equal",
+            CompareFunction::Greater => "greater",
+            CompareFunction::NotEqual => "not-equal",
+            CompareFunction::GreaterEqual => "greater-equal",
+            CompareFunction::Always => "always",
+        }
     }
 }
 
-pub fn spell_primitive_topology(name: PrimitiveTopology) -> Spelling
-    ensures { result ≡ spelled (topology_word name) }
-{
-    match name {
-        PrimitiveTopology::PointList => Spelling {
-            bytes: *b"point-list          ",
-            length: 10,
-        },
-        PrimitiveTopology::LineList => Spelling {
-            bytes: *b"line-list           ",
-            length: 9,
-        },
-        PrimitiveTopology::LineStrip => Spelling {
-            bytes: *b"line-strip          ",
-            length: 10,
-        },
-        PrimitiveTopology::TriangleList => Spelling {
-            bytes: *b"triangle-list       ",
-            length: 13,
-        },
-        PrimitiveTopology::TriangleStrip => Spelling {
-            bytes: *b"triangle-strip      ",
-            length: 14,
-        },
+impl Spelled for PrimitiveTopology {
+    ghost word = { topology_word };
+
+    fn names() -> &'static [PrimitiveTopology] {
+        &[
+            PrimitiveTopology::PointList,
+            PrimitiveTopology::LineList,
+            PrimitiveTopology::LineStrip,
+            PrimitiveTopology::TriangleList,
+            PrimitiveTopology::TriangleStrip,
+        ]
+    }
+
+    fn spell(self) -> &'static str {
+        match self {
+            PrimitiveTopology::PointList => "point-list",
+            PrimitiveTopology::LineList => "line-list",
+            PrimitiveTopology::LineStrip => "line-strip",
+            PrimitiveTopology::TriangleList => "triangle-list",
+            PrimitiveTopology::TriangleStrip => "triangle-strip",
+        }
     }
 }
 
-pub fn spell_front_face(name: FrontFace) -> Spelling
-    ensures { result ≡ spelled (front_word name) }
-{
-    match name {
-        FrontFace::Ccw => Spelling {
-            bytes: *b"ccw                 ",
-            length: 3,
-        },
-        FrontFace::Cw => Spelling {
-            bytes: *b"cw                  ",
-            length: 2,
-        },
+impl Spelled for FrontFace {
+    ghost word = { front_word };
+
+    fn names() -> &'static [FrontFace] {
+        &[FrontFace::Ccw, FrontFace::Cw]
+    }
+
+    fn spell(self) -> &'static str {
+        match self {
+            FrontFace::Ccw => "ccw",
+            FrontFace::Cw => "cw",
+        }
     }
 }
 
-pub fn spell_cull_mode(name: CullMode) -> Spelling
-    ensures { result ≡ spelled (cull_word name) }
-{
-    match name {
-        CullMode::None => Spelling {
-            bytes: *b"none                ",
-            length: 4,
-        },
-        CullMode::Front => Spelling {
-            bytes: *b"front               ",
-            length: 5,
-        },
-        CullMode::Back => Spelling {
-            bytes: *b"back                ",
-            length: 4,
-        },
+impl Spelled for CullMode {
+    ghost word = { cull_word };
+
+    fn names() -> &'static [CullMode] {
+        &[CullMode::None, CullMode::Front, CullMode::Back]
+    }
+
+    fn spell(self) -> &'static str {
+        match self {
+            CullMode::None => "none",
+            CullMode::Front => "front",
+            CullMode::Back => "back",
+        }
     }
 }
 
-pub fn spell_stencil_op(name: StencilOperation) -> Spelling
-    ensures { result ≡ spelled (stencil_op_word name) }
-{
-    match name {
-        StencilOperation::Keep => Spelling {
-            bytes: *b"keep                ",
-            length: 4,
-        },
-        StencilOperation::Zero => Spelling {
-            bytes: *b"zero                ",
-            length: 4,
-        },
-        StencilOperation::Replace => Spelling {
-            bytes: *b"replace             ",
-            length: 7,
-        },
-        StencilOperation::Invert => Spelling {
-            bytes: *b"invert              ",
-            length: 6,
-        },
-        StencilOperation::IncrementClamp => Spelling {
-            bytes: *b"increment-clamp     ",
-            length: 15,
-        },
-        StencilOperation::DecrementClamp => Spelling {
-            bytes: *b"decrement-clamp     ",
-            length: 15,
-        },
-        StencilOperation::IncrementWrap => Spelling {
-            bytes: *b"increment-wrap      ",
-            length: 14,
-        },
-        StencilOperation::DecrementWrap => Spelling {
-            bytes: *b"decrement-wrap      ",
-            length: 14,
-        },
+impl Spelled for StencilOperation {
+    ghost word = { stencil_op_word };
+
+    fn names() -> &'static [StencilOperation] {
+        &[
+            StencilOperation::Keep,
+            StencilOperation::Zero,
+            StencilOperation::Replace,
+            StencilOperation::Invert,
+            StencilOperation::IncrementClamp,
+            StencilOperation::DecrementClamp,
+            StencilOperation::IncrementWrap,
+            StencilOperation::DecrementWrap,
+        ]
+    }
+
+    fn spell(self) -> &'static str {
+        match self {
+            StencilOperation::Keep => "keep",
+            StencilOperation::Zero => "zero",
+            StencilOperation::Replace => "replace",
+            StencilOperation::Invert => "invert",
+            StencilOperation::IncrementClamp => "increment-clamp",
+            StencilOperation::DecrementClamp => "decrement-clamp",
+            StencilOperation::IncrementWrap => "increment-wrap",
+            StencilOperation::DecrementWrap => "decrement-wrap",
+        }
     }
 }
 
-pub fn spell_blend_factor(name: BlendFactor) -> Spelling
-    ensures { result ≡ spelled (factor_word name) }
-{
-    match name {
-        BlendFactor::Zero => Spelling {
-            bytes: *b"zero                ",
-            length: 4,
-        },
-        BlendFactor::One => Spelling {
-            bytes: *b"one                 ",
-            length: 3,
-        },
-        BlendFactor::Src => Spelling {
-            bytes: *b"src                 ",
-            length: 3,
-        },
-        BlendFactor::OneMinusSrc => Spelling {
-            bytes: *b"one-minus-src       ",
-            length: 13,
-        },
-        BlendFactor::SrcAlpha => Spelling {
-            bytes: *b"src-alpha           ",
-            length: 9,
-        },
-        BlendFactor::OneMinusSrcAlpha => Spelling {
-            bytes: *b"one-minus-src-alpha ",
-            length: 19,
-        },
-        BlendFactor::Dst => Spelling {
-            bytes: *b"dst                 ",
-            length: 3,
-        },
-        BlendFactor::OneMinusDst => Spelling {
-            bytes: *b"one-minus-dst       ",
-            length: 13,
-        },
-        BlendFactor::DstAlpha => Spelling {
-            bytes: *b"dst-alpha           ",
-            length: 9,
-        },
-        BlendFactor::OneMinusDstAlpha => Spelling {
-            bytes: *b"one-minus-dst-alpha ",
-            length: 19,
-        },
-        BlendFactor::SrcAlphaSaturated => Spelling {
-            bytes: *b"src-alpha-saturated ",
-            length: 19,
-        },
-        BlendFactor::Constant => Spelling {
-            bytes: *b"constant            ",
-            length: 8,
-        },
-        BlendFactor::OneMinusConstant => Spelling {
-            bytes: *b"one-minus-constant  ",
-            length: 18,
-        },
-        BlendFactor::Src1 => Spelling {
-            bytes: *b"src1                ",
-            length: 4,
-        },
-        BlendFactor::OneMinusSrc1 => Spelling {
-            bytes: *b"one-minus-src1      ",
-            length: 14,
-        },
-        BlendFactor::Src1Alpha => Spelling {
-            bytes: *b"src1-alpha          ",
-            length: 10,
-        },
-        BlendFactor::OneMinusSrc1Alpha => Spelling {
-            bytes: *b"one-minus-src1-alpha",
-            length: 20,
-        },
+impl Spelled for BlendFactor {
+    ghost word = { factor_word };
+
+    fn names() -> &'static [BlendFactor] {
+        &[
+            BlendFactor::Zero,
+            BlendFactor::One,
+            BlendFactor::Src,
+            BlendFactor::OneMinusSrc,
+            BlendFactor::SrcAlpha,
+            BlendFactor::OneMinusSrcAlpha,
+            BlendFactor::Dst,
+            BlendFactor::OneMinusDst,
+            BlendFactor::DstAlpha,
+            BlendFactor::OneMinusDstAlpha,
+            BlendFactor::SrcAlphaSaturated,
+            BlendFactor::Constant,
+            BlendFactor::OneMinusConstant,
+            BlendFactor::Src1,
+            BlendFactor::OneMinusSrc1,
+            BlendFactor::Src1Alpha,
+            BlendFactor::OneMinusSrc1Alpha,
+        ]
+    }
+
+    fn spell(self) -> &'static str {
+        match self {
+            BlendFactor::Zero => "zero",
+            BlendFactor::One => "one",
+            BlendFactor::Src => "src",
+            BlendFactor::OneMinusSrc => "one-minus-src",
+            BlendFactor::SrcAlpha => "src-alpha",
+            BlendFactor::OneMinusSrcAlpha => "one-minus-src-alpha",
+            BlendFactor::Dst => "dst",
+            BlendFactor::OneMinusDst => "one-minus-dst",
+            BlendFactor::DstAlpha => "dst-alpha",
+            BlendFactor::OneMinusDstAlpha => "one-minus-dst-alpha",
+            BlendFactor::SrcAlphaSaturated => "src-alpha-saturated",
+            BlendFactor::Constant => "constant",
+            BlendFactor::OneMinusConstant => "one-minus-constant",
+            BlendFactor::Src1 => "src1",
+            BlendFactor::OneMinusSrc1 => "one-minus-src1",
+            BlendFactor::Src1Alpha => "src1-alpha",
+            BlendFactor::OneMinusSrc1Alpha => "one-minus-src1-alpha",
+        }
     }
 }
 
-pub fn spell_blend_operation(name: BlendOperation) -> Spelling
-    ensures { result ≡ spelled (operation_word name) }
-{
-    match name {
-        BlendOperation::Add => Spelling {
-            bytes: *b"add                 ",
-            length: 3,
-        },
-        BlendOperation::Subtract => Spelling {
-            bytes: *b"subtract            ",
-            length: 8,
-        },
-        BlendOperation::ReverseSubtract => Spelling {
-            bytes: *b"reverse-subtract    ",
-            length: 16,
-        },
-        BlendOperation::Min => Spelling {
-            bytes: *b"min                 ",
-            length: 3,
-        },
-        BlendOperation::Max => Spelling {
-            bytes: *b"max                 ",
-            length: 3,
-        },
+impl Spelled for BlendOperation {
+    ghost word = { operation_word };
+
+    fn names() -> &'static [BlendOperation] {
+        &[
+            BlendOperation::Add,
+            BlendOperation::Subtract,
+            BlendOperation::ReverseSubtract,
+            BlendOperation::Min,
+            BlendOperation::Max,
+        ]
+    }
+
+    fn spell(self) -> &'static str {
+        match self {
+            BlendOperation::Add => "add",
+            BlendOperation::Subtract => "subtract",
+            BlendOperation::ReverseSubtract => "reverse-subtract",
+            BlendOperation::Min => "min",
+            BlendOperation::Max => "max",
+        }
     }
 }

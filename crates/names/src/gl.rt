@@ -1,8 +1,9 @@
 // The records of gles/mod.rs that hold GL numbers, each with the value that a state starts with.
+// `new` and not `Default`: constants and constructors are the project's rule for starting values.
 ghost use Rattle.std.specs.Prelude.{◌≡◌};
 ghost use Rattle.names.specs.Start.{start_primitive_state, start_stencil_ops, start_stencil_side, start_stencil_state};
 
-#[derive(Clone, Copy)]
+#[derive(Clone, Copy, Debug, PartialEq, Eq)]
 pub struct PrimitiveState {
     pub front_face: u32,
     pub cull_face: u32,
@@ -25,7 +26,7 @@ impl PrimitiveState {
     }
 }
 
-#[derive(Clone, Copy)]
+#[derive(Clone, Copy, Debug, PartialEq, Eq)]
 pub struct StencilOps {
     pub pass: u32,
     pub fail: u32,
@@ -46,7 +47,7 @@ impl StencilOps {
     }
 }
 
-#[derive(Clone, Copy)]
+#[derive(Clone, Copy, Debug, PartialEq, Eq)]
 pub struct StencilSide {
     pub function: u32,
     pub mask_read: u32,
@@ -63,18 +64,17 @@ impl StencilSide {
     pub fn new() -> Self
         ensures { result ≡ start_stencil_side }
     {
-        let ops = StencilOps::new();
         StencilSide {
             function: StencilSide::ALWAYS,
             mask_read: StencilSide::MASK,
             mask_write: StencilSide::MASK,
             reference: 0,
-            ops,
+            ops: StencilOps::new(),
         }
     }
 }
 
-#[derive(Clone, Copy)]
+#[derive(Clone, Copy, Debug, PartialEq, Eq)]
 pub struct StencilState {
     pub front: StencilSide,
     pub back: StencilSide,
@@ -84,20 +84,21 @@ impl StencilState {
     pub fn new() -> Self
         ensures { result ≡ start_stencil_state }
     {
-        let front = StencilSide::new();
-        let back = StencilSide::new();
-        StencilState { front, back }
+        StencilState {
+            front: StencilSide::new(),
+            back: StencilSide::new(),
+        }
     }
 }
 
-#[derive(Clone, Copy)]
+#[derive(Clone, Copy, Debug, PartialEq, Eq)]
 pub struct BlendComponent {
     pub src: u32,
     pub dst: u32,
     pub equation: u32,
 }
 
-#[derive(Clone, Copy)]
+#[derive(Clone, Copy, Debug, PartialEq, Eq)]
 pub struct BlendDesc {
     pub alpha: BlendComponent,
     pub color: BlendComponent,

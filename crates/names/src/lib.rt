@@ -6,17 +6,19 @@ ghost use Rattle.std.specs.Prelude.{◌≡◌};
 ghost use Rattle.names.specs.Maps.{compare_func, primitive_topology, front_face_of, cull_face_of, polygon_mode_of, stencil_op, blend_factor, blend_equation, primitive_state, stencil_ops, stencil_side, stencil_state, blend_component, blend_desc};
 
 pub mod gl;
+pub mod name;
 pub mod wgt;
 
 use gl::{BlendComponent, BlendDesc, PrimitiveState, StencilOps, StencilSide, StencilState};
+use name::number_of;
 
+// The eight maps by their names in gles/conv.rs; each is `number_of` at its type.
 pub const COMPARE_FUNCTIONS: [u32; 8] = [0x200, 0x201, 0x202, 0x203, 0x204, 0x205, 0x206, 0x207];
 
 pub fn map_compare_func(fun: wgt::CompareFunction) -> u32
     ensures { result ≡ compare_func fun }
 {
-    let at = wgt::compare_place(fun);
-    COMPARE_FUNCTIONS[at]
+    number_of(fun)
 }
 
 pub const TOPOLOGIES: [u32; 5] = [0x0, 0x1, 0x3, 0x4, 0x5];
@@ -24,8 +26,7 @@ pub const TOPOLOGIES: [u32; 5] = [0x0, 0x1, 0x3, 0x4, 0x5];
 pub fn map_primitive_topology(topology: wgt::PrimitiveTopology) -> u32
     ensures { result ≡ primitive_topology topology }
 {
-    let at = wgt::topology_place(topology);
-    TOPOLOGIES[at]
+    number_of(topology)
 }
 
 pub const FRONT_FACES: [u32; 2] = [0x900, 0x901];
@@ -33,8 +34,7 @@ pub const FRONT_FACES: [u32; 2] = [0x900, 0x901];
 pub fn map_front_face(face: wgt::FrontFace) -> u32
     ensures { result ≡ front_face_of face }
 {
-    let at = wgt::front_place(face);
-    FRONT_FACES[at]
+    number_of(face)
 }
 
 pub const CULL_FACES: [u32; 3] = [0x0, 0x404, 0x405];
@@ -42,8 +42,7 @@ pub const CULL_FACES: [u32; 3] = [0x0, 0x404, 0x405];
 pub fn map_cull_mode(mode: wgt::CullMode) -> u32
     ensures { result ≡ cull_face_of mode }
 {
-    let at = wgt::cull_place(mode);
-    CULL_FACES[at]
+    number_of(mode)
 }
 
 pub const POLYGON_MODES: [u32; 3] = [0x1b02, 0x1b01, 0x1b00];
@@ -51,21 +50,17 @@ pub const POLYGON_MODES: [u32; 3] = [0x1b02, 0x1b01, 0x1b00];
 pub fn map_polygon_mode(mode: wgt::PolygonMode) -> u32
     ensures { result ≡ polygon_mode_of mode }
 {
-    let at = wgt::polygon_place(mode);
-    POLYGON_MODES[at]
+    number_of(mode)
 }
 
 pub fn map_primitive_state(state: wgt::PrimitiveState) -> PrimitiveState
     ensures { result ≡ primitive_state state }
 {
-    let front = state.front_face;
-    let cull = state.cull_mode;
-    let polygon = state.polygon_mode;
     PrimitiveState {
-        front_face: map_front_face(front),
-        cull_face: map_cull_mode(cull),
+        front_face: map_front_face(state.front_face),
+        cull_face: map_cull_mode(state.cull_mode),
         unclipped_depth: state.unclipped_depth,
-        polygon_mode: map_polygon_mode(polygon),
+        polygon_mode: map_polygon_mode(state.polygon_mode),
     }
 }
 
@@ -76,20 +71,16 @@ pub const STENCIL_OPERATIONS: [u32; 8] = [
 pub fn map_stencil_op(operation: wgt::StencilOperation) -> u32
     ensures { result ≡ stencil_op operation }
 {
-    let at = wgt::stencil_op_place(operation);
-    STENCIL_OPERATIONS[at]
+    number_of(operation)
 }
 
 pub(crate) fn map_stencil_ops(face: wgt::StencilFaceState) -> StencilOps
     ensures { result ≡ stencil_ops face }
 {
-    let pass = face.pass_op;
-    let fail = face.fail_op;
-    let depth_fail = face.depth_fail_op;
     StencilOps {
-        pass: map_stencil_op(pass),
-        fail: map_stencil_op(fail),
-        depth_fail: map_stencil_op(depth_fail),
+        pass: map_stencil_op(face.pass_op),
+        fail: map_stencil_op(face.fail_op),
+        depth_fail: map_stencil_op(face.depth_fail_op),
     }
 }
 
@@ -100,27 +91,21 @@ pub(crate) fn map_stencil_side(
 ) -> StencilSide
     ensures { result ≡ stencil_side face read_mask write_mask }
 {
-    let compare = face.compare;
-    let ops = map_stencil_ops(face);
     StencilSide {
-        function: map_compare_func(compare),
+        function: map_compare_func(face.compare),
         mask_read: read_mask,
         mask_write: write_mask,
         reference: 0,
-        ops,
+        ops: map_stencil_ops(face),
     }
 }
 
 pub fn map_stencil(state: wgt::StencilState) -> StencilState
     ensures { result ≡ stencil_state state }
 {
-    let front = state.front;
-    let back = state.back;
-    let front_side = map_stencil_side(front, state.read_mask, state.write_mask);
-    let back_side = map_stencil_side(back, state.read_mask, state.write_mask);
     StencilState {
-        front: front_side,
-        back: back_side,
+        front: map_stencil_side(state.front, state.read_mask, state.write_mask),
+        back: map_stencil_side(state.back, state.read_mask, state.write_mask),
     }
 }
 
@@ -132,8 +117,7 @@ pub const BLEND_FACTORS: [u32; 17] = [
 pub fn map_blend_factor(factor: wgt::BlendFactor) -> u32
     ensures { result ≡ blend_factor factor }
 {
-    let at = wgt::factor_place(factor);
-    BLEND_FACTORS[at]
+    number_of(factor)
 }
 
 pub const BLEND_OPERATIONS: [u32; 5] = [0x8006, 0x800a, 0x800b, 0x8007, 0x8008];
@@ -141,32 +125,24 @@ pub const BLEND_OPERATIONS: [u32; 5] = [0x8006, 0x800a, 0x800b, 0x8007, 0x8008];
 pub fn map_blend_operation(operation: wgt::BlendOperation) -> u32
     ensures { result ≡ blend_equation operation }
 {
-    let at = wgt::operation_place(operation);
-    BLEND_OPERATIONS[at]
+    number_of(operation)
 }
 
 pub(crate) fn map_blend_component(component: wgt::BlendComponent) -> BlendComponent
     ensures { result ≡ blend_component component }
 {
-    let src = component.src_factor;
-    let dst = component.dst_factor;
-    let operation = component.operation;
     BlendComponent {
-        src: map_blend_factor(src),
-        dst: map_blend_factor(dst),
-        equation: map_blend_operation(operation),
+        src: map_blend_factor(component.src_factor),
+        dst: map_blend_factor(component.dst_factor),
+        equation: map_blend_operation(component.operation),
     }
 }
 
 pub fn map_blend(blend: wgt::BlendState) -> BlendDesc
     ensures { result ≡ blend_desc blend }
 {
-    let alpha = blend.alpha;
-    let color = blend.color;
-    let alpha_desc = map_blend_component(alpha);
-    let color_desc = map_blend_component(color);
     BlendDesc {
-        alpha: alpha_desc,
-        color: color_desc,
+        alpha: map_blend_component(blend.alpha),
+        color: map_blend_component(blend.color),
     }
 }

@@ -3,54 +3,32 @@
 // `u32` read as an `i32`, that `f32` truncated to a `u32`, and the bits of the `f32` once more, read back from its bits.
 #![tactic(auto)]
 
+use numbers::{
+    as_i32, as_u32, bits32, of_bits32, of_bits64, to_f32, trunc_i32, trunc_i32_f64, trunc_u32,
+    trunc_u32_f64,
+};
 use std::io;
 
 mod rows;
 
-fn digit(n: u32) -> u8 {
-    let d = (n % 16) as u8;
-    if d < 10 { 48 + d } else { 87 + d }
-}
-
-fn word(rt: &impl Print, n: u32) -> io::Result<()> {
-    let line = [
-        digit(n >> 28),
-        digit(n >> 24),
-        digit(n >> 20),
-        digit(n >> 16),
-        digit(n >> 12),
-        digit(n >> 8),
-        digit(n >> 4),
-        digit(n),
-    ];
-    rt.write_all(&line)
-}
-
 fn row(rt: &impl Print, b: u64) -> io::Result<()> {
-    let x = numbers::of_bits64(b);
-    let y = numbers::to_f32(x);
-    word(rt, numbers::bits32(y))?;
-    rt.write_all(b" ")?;
-    word(rt, numbers::as_u32(numbers::trunc_i32_f64(x)))?;
-    rt.write_all(b" ")?;
-    word(rt, numbers::trunc_u32_f64(x))?;
-    rt.write_all(b" ")?;
-    word(rt, numbers::as_u32(numbers::trunc_i32(y)))?;
-    rt.write_all(b" ")?;
-    word(
-        rt,
-        numbers::as_u32(numbers::as_i32(numbers::trunc_u32_f64(x))),
-    )?;
-    rt.write_all(b" ")?;
-    word(rt, numbers::trunc_u32(y))?;
-    rt.write_all(b" ")?;
-    word(rt, numbers::bits32(numbers::of_bits32(numbers::bits32(y))))?;
-    rt.write_all(b"\n")
+    let x = of_bits64(b);
+    let y = to_f32(x);
+    let rounded = bits32(y);
+    let signed = as_u32(trunc_i32_f64(x));
+    let unsigned = trunc_u32_f64(x);
+    let narrow = as_u32(trunc_i32(y));
+    let read = as_u32(as_i32(unsigned));
+    let narrow_unsigned = trunc_u32(y);
+    let back = bits32(of_bits32(rounded));
+    println!(rt;
+        "{rounded:08x} {signed:08x} {unsigned:08x} {narrow:08x} {read:08x} {narrow_unsigned:08x} {back:08x}"
+    )
 }
 
 fn main(rt: HostRuntime) -> io::Result<()> {
-    for i in 0..301 {
-        row(&rt, rows::ROWS[i])?;
+    for b in rows::ROWS {
+        row(&rt, b)?;
     }
     Ok(())
 }

@@ -1,10 +1,10 @@
 -- Theorems on the truncations of `Convert`, for a reader and for other crates. Those on bits stand in specs/Agree.antt. Assumes nothing.
--- `trunc-signed`, `trunc-unsigned`: at every width a truncation is the logic's own account of Rust's `as`.
+-- `trunc-signed`, `trunc-unsigned`: at every width a truncation is the logic's own account of Rust's `as`. `convert-is`: so is a conversion.
 use Rattle.std.specs.Prelude.{◌≡◌, ℕ, zero, suc, ◌-◌, ◌*◌, ◌/◌, ◌^◌, ◌<◌, ◌≤◌, min, Bool, true, false, cond, not, T, ℤ, pos, negsuc, neg_ℤ, nat_lt, refl, Float}
 use Rattle.std.proofs.Common.{sym, ap, ◌∙◌, zero-le, zero-lt-suc, arith, ltb→lt, nltb→le, le-ltb}
-use Rattle.std.specs.Float.{nan, inf, fin}
+use Rattle.std.specs.Float.{nan, inf, fin, Format, round_to_format}
 use Rattle.std.specs.Float.Ieee.{up, down, to_signed, to_unsigned}
-use Rattle.numbers.specs.Convert.{signed, unsigned, clamp, clamp_to, trunc_to}
+use Rattle.numbers.specs.Convert.{signed, unsigned, clamp, clamp_to, trunc_to, convert_to}
 
 -- ---- clamping to the range from -a to b
 min-of-lt : (q a : ℕ) → a < q → a ≡ min q a
@@ -80,3 +80,10 @@ trunc-signed h x =
 
 pub trunc-unsigned : (w : ℕ) (x : Float) → trunc_to unsigned w x ≡ pos (to_unsigned w x)
 trunc-unsigned w x = clamped 0 (2 ^ w - 1) x ∙ sym (unsigned_is w x)
+
+-- ---- a conversion to a float format
+pub convert-is : (f : Format) (x : Float) → convert_to f x ≡ round_to_format f x
+unfolding convert_to round_to_format
+convert-is f nan = refl
+convert-is f (inf s) = refl
+convert-is f (fin s m e) = refl

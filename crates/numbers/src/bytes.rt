@@ -6,17 +6,5 @@ ghost use Rattle.numbers.specs.Bytes.{little_endian};
 pub fn byte_at(word: u32, j: u32) -> u8
     ensures { result ≡ slice_index (little_endian word) j }
 {
-    if j == 0 {
-        return (word % 256) as u8;
-    }
-    if j == 1 {
-        return (word / 256 % 256) as u8;
-    }
-    if j == 2 {
-        return (word / 65536 % 256) as u8;
-    }
-    if j == 3 {
-        return (word / 16777216 % 256) as u8;
-    }
-    0
+    word.to_le_bytes().get(j as usize).copied().unwrap_or(0)
 }

@@ -26,6 +26,8 @@ fn next_state(a: Answer) -> State
 // `list` and `bytes` are written; `label` and the query set are read, as far as their counts say.
 // A call that is turned away leaves state and runs, and the next one is made all the same. The
 // answer is that of `end_encoding`.
+// List, board and state are parameters of each call (state by value, the list lent): a struct would
+// ask callers for another type.
 pub fn record_pass(
     list: &mut [Record],
     bytes: &mut [u8],

@@ -4,7 +4,7 @@ use Prim.Native.Nat.{ℕ, ◌^◌, ◌<◌}
 use mathlib.Core.Path.{◌≡◌, refl, sym, ap, ap₂, ◌∙◌, subst}
 use mathlib.Core.Bool.{Bool, true, false, cond, not, ◌&&◌, ◌||◌}
 use mathlib.Core.List.{List, [], ◌∷◌, ◌++◌, map}
-use mathlib.Core.Option.{Option, none}
+use Rattle.std.specs.Prelude.{Option, None}
 use native.Mathlib.Omega.{arith}
 use lib.Bits.{bit_or, or_zero_r}
 use lib.Dec.{eqb, ltb, leb}
@@ -107,7 +107,7 @@ module _ (caps : PrivateCapabilities) (rooms : Rooms) (o : Option RenderPipeline
 
   drawing-call : (c : Call) (w : ℕ) (made : Bool) → turn_of caps c ≡ draws w made
       → (four six : Bool) (cs : List Command) → meaning caps t c ≡ drawing caps t w four six cs → meaning caps s c ≡ drawing caps s w four six cs
-      → (caps.fully_featured_instancing ≡ true → w ≡ 0) → (carried caps rooms s c ≡ true → caps.vertex_buffer_layout ≡ true → o ≡ none → w ≡ 0)
+      → (caps.fully_featured_instancing ≡ true → w ≡ 0) → (carried caps rooms s c ≡ true → caps.vertex_buffer_layout ≡ true → o ≡ None → w ≡ 0)
       → Both caps rooms o s d n c
   drawing-call c w made turn four six cs theirs ours full unpiped =
       record {
@@ -126,7 +126,7 @@ module _ (caps : PrivateCapabilities) (rooms : Rooms) (o : Option RenderPipeline
       still-dirty = without (woken t.vertex w) (cleared caps t.vertex w)
 
   direct-zero : (instance : ℕ) (c : Call) → Asked c → turn_of caps c ≡ draws (working caps instance) true → carried caps rooms s c ≡ true
-      → caps.vertex_buffer_layout ≡ true → o ≡ none → working caps instance ≡ 0
+      → caps.vertex_buffer_layout ≡ true → o ≡ None → working caps instance ≡ 0
   direct-zero instance c E e k layout q = go caps.fully_featured_instancing refl
     where
       go : (f : Bool) → caps.fully_featured_instancing ≡ f → working caps instance ≡ 0

@@ -3,7 +3,8 @@ use Prim.Native.Nat.{ℕ}
 use mathlib.Core.Path.{◌≡◌, refl, sym, ap, ◌∙◌, subst}
 use mathlib.Core.Bool.{Bool, true, false, cond, ◌||◌}
 use mathlib.Core.List.{List, [], ◌∷◌, ◌++◌, map}
-use mathlib.Core.Option.{Option, none, some}
+use Rattle.std.specs.Prelude.{Option, None, Some}
+use Rattle.names.specs.declared.gl.StencilState.{StencilState}
 use lib.Dec.{eqb}
 use lib.ListN.{take}
 use Rattle.mask.specs.Mask.{places}
@@ -14,8 +15,6 @@ use Rattle.records.specs.declared.command.Command.{Command}
 use Rattle.records.specs.declared.command.Command.TheVariants.{ResetFramebuffer, SetScissor, SetViewport, SetDrawColorBuffers, SetIndexBuffer}
 use Rattle.records.specs.declared.command.RectI32.{RectI32}
 use Rattle.records.specs.declared.pass.RenderPassDescriptor.{RenderPassDescriptor}
-use Rattle.records.specs.declared.pipeline.OptionStencilState.{OptionStencilState}
-use Rattle.records.specs.declared.pipeline.OptionStencilState.TheVariants as stencil
 use Rattle.records.specs.declared.pipeline.PipelineInner.{PipelineInner}
 use Rattle.records.specs.declared.pipeline.PrivateCapabilities.{PrivateCapabilities}
 use Rattle.records.specs.declared.pipeline.RenderPipeline.{RenderPipeline}
@@ -62,7 +61,7 @@ begun r m =
           record {
             vertices = m.gl.vertices;
             bindings = m.gl.bindings;
-            screen = record { viewport = some (record { rect = r; depth = full_depth }); scissor = some r; blend = m.gl.screen.blend };
+            screen = record { viewport = Some (record { rect = r; depth = full_depth }); scissor = Some r; blend = m.gl.screen.blend };
             fixed = m.gl.fixed;
             faces = m.gl.faces;
           };
@@ -95,7 +94,7 @@ play-begin caps d label set at m =
 
 -- ---- the end of one: only attributes are unset
 abbrev pub unset_act : AttributeDesc → Vertices → Vertices
-unset_act a v = put_attribute a.location none v
+unset_act a v = put_attribute a.location None v
 
 play-end : (p : PassState) (l : List AttributeDesc) (m : Machine) → play m (end_render_commands p (map unset_attribute l)) ≡ with_vertices (folded unset_act l m.gl.vertices) m
 play-end p l m =
@@ -122,23 +121,23 @@ play-end p l m =
     stamp = timestamp p.end_of_pass_timestamp
 
 -- where nothing is set outside a list, nothing is set once the list is unset
-pub unset-all : (l : List AttributeDesc) (g : Vertices) (i : ℕ) → (among i (locations l) ≡ false → g.attribute i ≡ none) → (folded unset_act l g).attribute i ≡ none
+pub unset-all : (l : List AttributeDesc) (g : Vertices) (i : ℕ) → (among i (locations l) ≡ false → g.attribute i ≡ None) → (folded unset_act l g).attribute i ≡ None
 unfolding among
 unset-all [] g i h = h refl
 unset-all (a ∷ l) g i h = unset-all l (unset_act a g) i (λ e. go (eqb i a.location) refl e)
   where
-    go : (t : Bool) → eqb i a.location ≡ t → among i (locations l) ≡ false → cond t none (g.attribute i) ≡ none
+    go : (t : Bool) → eqb i a.location ≡ t → among i (locations l) ≡ false → cond t None (g.attribute i) ≡ None
     go true q e = refl
     go false q e = h (ap (λ (t : Bool). t || among i (locations l)) q ∙ e)
 
 module _ (caps : PrivateCapabilities) (s : State) (m : Machine) (b : Book) (T : Tied caps s m b) where
   pub by-begin-render : (d : RenderPassDescriptor) (label : Label) (set : Lent) (at : ℕ) (pass : PassState) (n k l : ℕ)
       → Tied caps (with_progress (counted Render n k l) (with_pass pass s)) (play m (begin_render_commands caps d label set at))
-      (in_stage (next_stage b.stage) (with_screen (some (record { rect = extent_rect d.extent; depth = full_depth })) (some (extent_rect d.extent)) b.blend b))
+      (in_stage (next_stage b.stage) (with_screen (Some (record { rect = extent_rect d.extent; depth = full_depth })) (Some (extent_rect d.extent)) b.blend b))
   by-begin-render d label set at pass n k l =
       subst
       (λ (x : Machine). Tied caps (with_progress (counted Render n k l) (with_pass pass s)) x
-      (in_stage (next_stage b.stage) (with_screen (some (record { rect = extent_rect d.extent; depth = full_depth })) (some (extent_rect d.extent)) b.blend b)))
+      (in_stage (next_stage b.stage) (with_screen (Some (record { rect = extent_rect d.extent; depth = full_depth })) (Some (extent_rect d.extent)) b.blend b)))
       (sym (play-begin caps d label set at m))
       (record {
         stage = ap onward T.stage ∙ sym (stage_is b.stage);
@@ -288,9 +287,9 @@ module _ (caps : PrivateCapabilities) (s : State) (m : Machine) (b : Book) (T : 
   -- the reference of both sides
   pub by-reference : (v : ℕ) (n k l : ℕ)
       → Tied caps (with_progress (counted s.progress.phase n k l) (with_fixed (with_stencil (referenced v s.fixed.stencil) s.fixed) s)) (play m (stencil_funcs (referenced v s.fixed.stencil)))
-      (with_pipeline b.pipeline (some (record { front = v; back = v })) b)
+      (with_pipeline b.pipeline (Some (record { front = v; back = v })) b)
   by-reference v n k l =
-      subst (λ (x : Machine). Tied caps (with_progress (counted s.progress.phase n k l) (with_fixed (with_stencil (referenced v s.fixed.stencil) s.fixed) s)) x (with_pipeline b.pipeline (some (record { front = v; back = v })) b))
+      subst (λ (x : Machine). Tied caps (with_progress (counted s.progress.phase n k l) (with_fixed (with_stencil (referenced v s.fixed.stencil) s.fixed) s)) x (with_pipeline b.pipeline (Some (record { front = v; back = v })) b))
       (sym (play-funcs (referenced v s.fixed.stencil) m))
       (record {
         stage = T.stage;
@@ -311,29 +310,29 @@ module _ (caps : PrivateCapabilities) (s : State) (m : Machine) (b : Book) (T : 
       })
     where
       restenciled : (p : RenderPipeline) → Stenciled s.fixed.stencil m.gl.faces b.reference p
-          → Stenciled (referenced v s.fixed.stencil) (with_funcs (referenced v s.fixed.stencil) m).gl.faces (some (record { front = v; back = v })) p
+          → Stenciled (referenced v s.fixed.stencil) (with_funcs (referenced v s.fixed.stencil) m).gl.faces (Some (record { front = v; back = v })) p
       restenciled p S = record { funcs = funcs p.stencil S.funcs; faces = faces p.stencil S.funcs S.faces }
         where
-          funcs : (o : OptionStencilState) → SameFuncs s.fixed.stencil o → SameFuncs (referenced v s.fixed.stencil) o
-          funcs stencil.None h = tt
-          funcs (stencil.Some t) h = h
+          funcs : (o : Option StencilState) → SameFuncs s.fixed.stencil o → SameFuncs (referenced v s.fixed.stencil) o
+          funcs None h = tt
+          funcs (Some t) h = h
 
-          faces : (o : OptionStencilState) → SameFuncs s.fixed.stencil o → cond (has_stencil o) (faces_of m.gl.faces) none ≡ named_faces b.reference o
-              → cond (has_stencil o) (faces_of (with_funcs (referenced v s.fixed.stencil) m).gl.faces) none ≡ named_faces (some (record { front = v; back = v })) o
-          faces stencil.None h e = refl
-          faces (stencil.Some t) h e =
+          faces : (o : Option StencilState) → SameFuncs s.fixed.stencil o → cond (has_stencil o) (faces_of m.gl.faces) None ≡ named_faces b.reference o
+              → cond (has_stencil o) (faces_of (with_funcs (referenced v s.fixed.stencil) m).gl.faces) None ≡ named_faces (Some (record { front = v; back = v })) o
+          faces None h e = refl
+          faces (Some t) h e =
               let ff = h.0.0 in
               let fr = h.0.1 in
               let bf = h.1.0 in
               let br = h.1.1 in
               let fo = ap (ops_front m.gl.faces.front_ops) e in
               let bo = ap (ops_back m.gl.faces.back_ops) e in
-              λ j. some (record { front = some (record { function = ff j; reference = v; read = fr j }); back = some (record { function = bf j; reference = v; read = br j }); front_ops = fo j; back_ops = bo j })
+              λ j. Some (record { front = Some (record { function = ff j; reference = v; read = fr j }); back = Some (record { function = bf j; reference = v; read = br j }); front_ops = fo j; back_ops = bo j })
             where
               ops_front : Option FaceOps → Option Stencil → Option FaceOps
-              ops_front d none = d
-              ops_front d (some x) = x.front_ops
+              ops_front d None = d
+              ops_front d (Some x) = x.front_ops
 
               ops_back : Option FaceOps → Option Stencil → Option FaceOps
-              ops_back d none = d
-              ops_back d (some x) = x.back_ops
+              ops_back d None = d
+              ops_back d (Some x) = x.back_ops

@@ -3,7 +3,7 @@ use Prim.Native.Nat.{ℕ, zero, suc, ◌<◌}
 use mathlib.Core.Path.{◌≡◌, refl, sym, ap, ◌∙◌, subst}
 use mathlib.Core.Bool.{Bool, true, false, cond}
 use mathlib.Core.List.{List, [], ◌∷◌, ◌++◌, map, append_assoc, append-nil}
-use mathlib.Core.Option.{Option, some}
+use Rattle.std.specs.Prelude.{Option, Some}
 use native.Mathlib.Omega.{arith}
 use Rattle.tables.specs.Tabulate.{tabulate, upd_other}
 use Rattle.mask.specs.Mask.{test_bit, places}
@@ -132,7 +132,7 @@ module _ (caps : PrivateCapabilities) (s : State) (m : Machine) (b : Book) (T : 
             ap (λ (t : Bool). (cond t (folded (buffer_act v w) (places (rebound v w)) g) (folded (attribute_act v w) (sent v w) g)).buffer i) layout
             ∙ slot_read caps v g b.buffer (T.slots f) layout w p P.fetched i l h y d x;
         attributes = λ flat.
-            subst (λ (t : Bool). Each (λ (a : AttributeDesc). test_bit v.bound a.buffer_index ≡ true → (cond t (folded (buffer_act v w) (places (rebound v w)) g) (folded (attribute_act v w) (sent v w) g)).attribute a.location ≡ some (attribute_buffer v w a)) (attributes_in p))
+            subst (λ (t : Bool). Each (λ (a : AttributeDesc). test_bit v.bound a.buffer_index ≡ true → (cond t (folded (buffer_act v w) (places (rebound v w)) g) (folded (attribute_act v w) (sent v w) g)).attribute a.location ≡ Some (attribute_buffer v w a)) (attributes_in p))
             (sym flat) (attributes-after caps v g p P.fetched flat w);
       }
 
@@ -143,17 +143,17 @@ module _ (caps : PrivateCapabilities) (s : State) (m : Machine) (b : Book) (T : 
       ∙ attribute-kept caps v g b.buffer (T.slots f) layout w
 
   -- each described, bound slot, after the sweep
-  reslotted : First s.progress.phase b.stage → caps.vertex_buffer_layout ≡ true → (i : ℕ) → i < 16 → has (b.buffer i) ≡ true → test_bit v.described i ≡ true → test_bit v.bound i ≡ true → g'.buffer i ≡ some (slot_buffer v (instance_at (prepared_state caps v w) i) i)
+  reslotted : First s.progress.phase b.stage → caps.vertex_buffer_layout ≡ true → (i : ℕ) → i < 16 → has (b.buffer i) ≡ true → test_bit v.described i ≡ true → test_bit v.bound i ≡ true → g'.buffer i ≡ Some (slot_buffer v (instance_at (prepared_state caps v w) i) i)
   unfolding g' prepared_played
   reslotted f layout i l y d x =
       ap (λ (t : Bool). (cond t (folded (buffer_act v w) (places (rebound v w)) g) (folded (attribute_act v w) (sent v w) g)).buffer i) layout
       ∙ slot-after caps v g b.buffer (T.slots f) layout w i l y d x
 
   -- each attribute, after the sweep, at the instance that its slot remembers
-  owned : (p : RenderPipeline) → First s.progress.phase b.stage → Piped caps s m.gl b.reference p → caps.vertex_buffer_layout ≡ false → Each (λ (a : AttributeDesc). test_bit v.bound a.buffer_index ≡ true → g'.attribute a.location ≡ some (attribute_buffer v (instance_at (prepared_state caps v w) a.buffer_index) a)) (attributes_in p)
+  owned : (p : RenderPipeline) → First s.progress.phase b.stage → Piped caps s m.gl b.reference p → caps.vertex_buffer_layout ≡ false → Each (λ (a : AttributeDesc). test_bit v.bound a.buffer_index ≡ true → g'.attribute a.location ≡ Some (attribute_buffer v (instance_at (prepared_state caps v w) a.buffer_index) a)) (attributes_in p)
   unfolding g' prepared_played
   owned p f P flat =
-      subst (λ (t : Bool). Each (λ (a : AttributeDesc). test_bit v.bound a.buffer_index ≡ true → (cond t (folded (buffer_act v w) (places (rebound v w)) g) (folded (attribute_act v w) (sent v w) g)).attribute a.location ≡ some (attribute_buffer v (instance_at (prepared_state caps v w) a.buffer_index) a)) (attributes_in p))
+      subst (λ (t : Bool). Each (λ (a : AttributeDesc). test_bit v.bound a.buffer_index ≡ true → (cond t (folded (buffer_act v w) (places (rebound v w)) g) (folded (attribute_act v w) (sent v w) g)).attribute a.location ≡ Some (attribute_buffer v (instance_at (prepared_state caps v w) a.buffer_index) a)) (attributes_in p))
       (sym flat) (attributes-own caps v g p P.fetched flat w)
 
   refetched : (p : RenderPipeline) → First s.progress.phase b.stage → Piped caps s m.gl b.reference p → Fetched caps (prepared_state caps v w) g' p
@@ -165,13 +165,13 @@ module _ (caps : PrivateCapabilities) (s : State) (m : Machine) (b : Book) (T : 
         kept = P.fetched.kept;
         instances = P.fetched.instances;
         sent = λ layout.
-            subst (λ (x : ℕ → Option Attribute). Each (λ (a : AttributeDesc). x a.location ≡ some (sent_attribute p a)) (attributes_in p)) (sym (attributes-kept p f P layout)) (P.fetched.sent layout);
+            subst (λ (x : ℕ → Option Attribute). Each (λ (a : AttributeDesc). x a.location ≡ Some (sent_attribute p a)) (attributes_in p)) (sym (attributes-kept p f P layout)) (P.fetched.sent layout);
         held = P.fetched.held;
         clean = λ flat. go (attributes_in p) (owned p f P flat);
       }
     where
-      go : (l : List AttributeDesc) → Each (λ (a : AttributeDesc). test_bit v.bound a.buffer_index ≡ true → g'.attribute a.location ≡ some (attribute_buffer v (instance_at (prepared_state caps v w) a.buffer_index) a)) l
-          → Each (λ (a : AttributeDesc). test_bit (prepared_state caps v w).dirty_vbuf_mask a.buffer_index ≡ false → test_bit v.bound a.buffer_index ≡ true → g'.attribute a.location ≡ some (attribute_buffer v (instance_at (prepared_state caps v w) a.buffer_index) a)) l
+      go : (l : List AttributeDesc) → Each (λ (a : AttributeDesc). test_bit v.bound a.buffer_index ≡ true → g'.attribute a.location ≡ Some (attribute_buffer v (instance_at (prepared_state caps v w) a.buffer_index) a)) l
+          → Each (λ (a : AttributeDesc). test_bit (prepared_state caps v w).dirty_vbuf_mask a.buffer_index ≡ false → test_bit v.bound a.buffer_index ≡ true → g'.attribute a.location ≡ Some (attribute_buffer v (instance_at (prepared_state caps v w) a.buffer_index) a)) l
       go [] h = tt
       go (a ∷ l) h = ((λ e x. h.0 x), go l h.1)
 
@@ -180,7 +180,7 @@ module _ (caps : PrivateCapabilities) (s : State) (m : Machine) (b : Book) (T : 
   unfolding g' prepared_played
   spare-after flat i e =
       ap (λ (t : Bool). (cond t (folded (buffer_act v w) (places (rebound v w)) g) (folded (attribute_act v w) (sent v w) g)).attribute i) flat
-      ∙ spared (attribute_act v w) (λ (x : Vertices). x.attribute) (λ a x j ne. upd_other x.attribute a.location j (some (attribute_buffer v w a)) ne)
+      ∙ spared (attribute_act v w) (λ (x : Vertices). x.attribute) (λ a x j ne. upd_other x.attribute a.location j (Some (attribute_buffer v w a)) ne)
       (rebound v w) (attributes_of v) i (elsewhere i (attributes_of v) e) g
       ∙ T.spare flat i e
 

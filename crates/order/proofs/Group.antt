@@ -2,7 +2,7 @@
 use Prim.Native.Nat.{ℕ}
 use mathlib.Core.Path.{◌≡◌, refl, ap, ◌∙◌}
 use mathlib.Core.List.{List, [], ◌∷◌, ◌++◌}
-use mathlib.Core.Option.{Option, some}
+use Rattle.std.specs.Prelude.{Option, Some}
 use Rattle.tables.specs.Tabulate.{upd}
 use Rattle.mask.specs.Mask.{places}
 use Rattle.records.specs.declared.binding.BindGroupLayoutEntry.{BindGroupLayoutEntry}
@@ -60,7 +60,7 @@ group-samplers (x ∷ xs) os g = group-samplers xs (offsets_after x.layout x.raw
 entry-res : (e : BindGroupLayoutEntry) (r : RawBinding) (os : List ℕ) (g : Bindings) (x : Bound) (i : Option ℕ) → ResTied g x i → ResTied (entry_played e r os g) (entry_bound e r os x) i
 entry-res e (content.Buffer raw offset size) os g x i T =
     record {
-      buffers = ap (λ (f : ℕ → ℕ → Option BufferRange). upd f (buffer_target e.ty) (upd (f (buffer_target e.ty)) e.slot (some (record { buffer = raw; offset = offset_of e offset os; size = size })))) T.buffers;
+      buffers = ap (λ (f : ℕ → ℕ → Option BufferRange). upd f (buffer_target e.ty) (upd (f (buffer_target e.ty)) e.slot (Some (record { buffer = raw; offset = offset_of e offset os; size = size })))) T.buffers;
       textures = T.textures;
       images = T.images;
       index = T.index;
@@ -68,12 +68,12 @@ entry-res e (content.Buffer raw offset size) os g x i T =
 entry-res e (content.Texture raw target aspects mips) os g x i T =
     record {
       buffers = T.buffers;
-      textures = ap (λ (f : ℕ → Option TextureBinding). upd f e.slot (some (record { texture = raw; target = target; aspects = aspects; mips = mips }))) T.textures;
+      textures = ap (λ (f : ℕ → Option TextureBinding). upd f e.slot (Some (record { texture = raw; target = target; aspects = aspects; mips = mips }))) T.textures;
       images = T.images;
       index = T.index;
     }
 entry-res e (content.Image y) os g x i T =
-    record { buffers = T.buffers; textures = T.textures; images = ap (λ (f : ℕ → Option ImageBinding). upd f e.slot (some y)) T.images; index = T.index }
+    record { buffers = T.buffers; textures = T.textures; images = ap (λ (f : ℕ → Option ImageBinding). upd f e.slot (Some y)) T.images; index = T.index }
 entry-res e (content.Sampler k) os g x i T = record { buffers = T.buffers; textures = T.textures; images = T.images; index = T.index }
 
 pub group-res : (xs : List Entry) (os : List ℕ) (g : Bindings) (x : Bound) (i : Option ℕ) → ResTied g x i → ResTied (group_played xs os g) (group_bound xs os x) i

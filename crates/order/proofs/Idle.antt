@@ -3,7 +3,8 @@ use Prim.Native.Nat.{ℕ, suc, ◌+◌, ◌*◌}
 use mathlib.Core.Path.{◌≡◌, refl, sym, ap, ◌∙◌, subst}
 use mathlib.Core.Bool.{Bool, true, false, cond, ◌||◌}
 use mathlib.Core.List.{List, [], ◌∷◌, ◌++◌, map}
-use mathlib.Core.Option.{Option, none}
+use Rattle.std.specs.Prelude.{Option, None, Some}
+use Rattle.records.specs.declared.pass.TimestampWrites.{TimestampWrites}
 use lib.Dec.{eqb}
 use lib.ListN.{take}
 use Rattle.names.specs.Gl.{GL_COLOR_ATTACHMENT0, GL_COPY_READ_BUFFER, GL_COPY_WRITE_BUFFER}
@@ -16,19 +17,11 @@ use Rattle.records.specs.declared.command.Command.{Command}
 use Rattle.records.specs.declared.command.Command.TheVariants.{BindAttachment, InvalidateAttachments, BufferBarrier, TextureBarrier, CopyBufferToBuffer, Dispatch, PushDebugGroup}
 use Rattle.records.specs.declared.command.Extent3d.{Extent3d}
 use Rattle.records.specs.declared.command.ImmediateDesc.{ImmediateDesc}
-use Rattle.records.specs.declared.command.OptionU32.{OptionU32}
-use Rattle.records.specs.declared.command.OptionU32.TheVariants.{None, Some}
 use Rattle.records.specs.declared.command.SampleKind.{SampleKind}
 use Rattle.records.specs.declared.command.SampleKind.TheVariants as kind
 use Rattle.records.specs.declared.pass.ColorAttachment.{ColorAttachment}
 use Rattle.records.specs.declared.pass.ColorPlace.{ColorPlace}
 use Rattle.records.specs.declared.pass.DepthStencilAttachment.{DepthStencilAttachment}
-use Rattle.records.specs.declared.pass.OptionColorAttachment.{OptionColorAttachment}
-use Rattle.records.specs.declared.pass.OptionColorAttachment.TheVariants as place
-use Rattle.records.specs.declared.pass.OptionDepthStencil.{OptionDepthStencil}
-use Rattle.records.specs.declared.pass.OptionDepthStencil.TheVariants as target
-use Rattle.records.specs.declared.pass.OptionTimestampWrites.{OptionTimestampWrites}
-use Rattle.records.specs.declared.pass.OptionTimestampWrites.TheVariants as writes
 use Rattle.records.specs.declared.pass.RenderPassDescriptor.{RenderPassDescriptor}
 use Rattle.records.specs.declared.pipeline.PrivateCapabilities.{PrivateCapabilities}
 use Rattle.records.specs.declared.state.ResolveDesc.{ResolveDesc}
@@ -63,13 +56,13 @@ idle-cond true xs ys a b = a
 idle-cond false xs ys a b = b
 
 -- ---- passes
-pub idle-timestamp : (o : OptionU32) → Idle (timestamp o)
+pub idle-timestamp : (o : Option ℕ) → Idle (timestamp o)
 idle-timestamp None m = refl
 idle-timestamp (Some q) m = refl
 
-pub idle-begin : (set : Lent) (t : OptionTimestampWrites) → Idle (begin_timestamp set t)
-idle-begin set writes.None m = refl
-idle-begin set (writes.Some t) m = idle-timestamp (query_at set t.beginning_of_pass_write_index) m
+pub idle-begin : (set : Lent) (t : Option TimestampWrites) → Idle (begin_timestamp set t)
+idle-begin set None m = refl
+idle-begin set (Some t) m = idle-timestamp (query_at set t.beginning_of_pass_write_index) m
 
 pub idle-push : (l : Label) (at : ℕ) → Idle (push_label l at)
 idle-push l at = idle-cond l.present (PushDebugGroup (record { start = at; end = at + l.bytes.count }) ∷ []) [] (λ m. refl) (λ m. refl)
@@ -78,9 +71,9 @@ pub idle-pop : (t : Bool) → Idle (pop_label t)
 idle-pop true m = refl
 idle-pop false m = refl
 
-idle-color : (caps : PrivateCapabilities) (n i : ℕ) (o : OptionColorAttachment) → Idle (attach_place caps n i o)
-idle-color caps n i place.None m = refl
-idle-color caps n i (place.Some a) m =
+idle-color : (caps : PrivateCapabilities) (n i : ℕ) (o : Option ColorAttachment) → Idle (attach_place caps n i o)
+idle-color caps n i None m = refl
+idle-color caps n i (Some a) m =
     idle-either (resolves_in_place caps i a.ops a.resolve_target) (BindAttachment (GL_COLOR_ATTACHMENT0 + i) (view_or a.view a.resolve_target) None n)
     (BindAttachment (GL_COLOR_ATTACHMENT0 + i) a.view a.depth_slice 1) (λ x. refl) (λ x. refl) m
 
@@ -89,9 +82,9 @@ unfolding attach_colors
 idle-colors caps n i [] m = refl
 idle-colors caps n i (p ∷ ps) m = idle-append (attach_place caps n i p.attachment) (attach_colors caps n (suc i) ps) (idle-color caps n i p.attachment) (idle-colors caps n (suc i) ps) m
 
-idle-depth : (o : OptionDepthStencil) → Idle (attach_depth o)
-idle-depth target.None m = refl
-idle-depth (target.Some d) m = refl
+idle-depth : (o : Option DepthStencilAttachment) → Idle (attach_depth o)
+idle-depth None m = refl
+idle-depth (Some d) m = refl
 
 pub idle-attachments : (caps : PrivateCapabilities) (d : RenderPassDescriptor) → Idle (attachments caps d)
 idle-attachments caps d =
@@ -106,9 +99,9 @@ idle-clear n a kind.Uint m = refl
 idle-clear n a kind.Sint m = refl
 idle-clear n a kind.Depth m = refl
 
-idle-place : (n : ℕ) (o : OptionColorAttachment) → Idle (clear_place n o)
-idle-place n place.None m = refl
-idle-place n (place.Some a) m = idle-cond (clears a.ops) (clear_color n a a.view.kind) [] (idle-clear n a a.view.kind) (λ x. refl) m
+idle-place : (n : ℕ) (o : Option ColorAttachment) → Idle (clear_place n o)
+idle-place n None m = refl
+idle-place n (Some a) m = idle-cond (clears a.ops) (clear_color n a a.view.kind) [] (idle-clear n a a.view.kind) (λ x. refl) m
 
 idle-clears : (n : ℕ) (ps : List ColorPlace) → Idle (clear_colors n ps)
 unfolding clear_colors
@@ -121,9 +114,9 @@ idle-both true false d m = refl
 idle-both false true d m = refl
 idle-both false false d m = refl
 
-idle-cleared : (o : OptionDepthStencil) → Idle (clear_depth o)
-idle-cleared target.None m = refl
-idle-cleared (target.Some d) m = idle-both (clears d.depth_ops) (clears d.stencil_ops) d m
+idle-cleared : (o : Option DepthStencilAttachment) → Idle (clear_depth o)
+idle-cleared None m = refl
+idle-cleared (Some d) m = idle-both (clears d.depth_ops) (clears d.stencil_ops) d m
 
 pub idle-all-clears : (d : RenderPassDescriptor) → Idle (clear_colors 0 (places_of d) ++ clear_depth d.depth_stencil_attachment)
 idle-all-clears d = idle-append (clear_colors 0 (places_of d)) (clear_depth d.depth_stencil_attachment) (idle-clears 0 (places_of d)) (idle-cleared d.depth_stencil_attachment)
@@ -168,7 +161,7 @@ idle-copies src dst l = idle-map (copy_command src dst) one l
         (CopyBufferToBuffer src.raw src.target dst.raw dst.target c) (λ x. refl) (λ x. refl) m
 
 -- ---- before the first render pass no slot is described or bound
-pub slots-start : (caps : PrivateCapabilities) (v : VertexState) (g : Vertices) (buffer : ℕ → Option BufferBinding) → v ≡ start_vertex → ((i : ℕ) → buffer i ≡ none) → Slots caps v g buffer
+pub slots-start : (caps : PrivateCapabilities) (v : VertexState) (g : Vertices) (buffer : ℕ → Option BufferBinding) → v ≡ start_vertex → ((i : ℕ) → buffer i ≡ None) → Slots caps v g buffer
 slots-start caps v g buffer e h = subst (λ (x : VertexState). Slots caps x g buffer) (sym e) S
   where
     S : Slots caps start_vertex g buffer

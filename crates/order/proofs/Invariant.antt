@@ -4,7 +4,7 @@ use Prim.Native.Nat.{ℕ, ◌+◌, ◌<◌}
 use mathlib.Core.Path.{◌≡◌}
 use mathlib.Core.Bool.{true, false, cond}
 use mathlib.Core.List.{List, [], ◌∷◌}
-use mathlib.Core.Option.{Option, none, some}
+use Rattle.std.specs.Prelude.{Option, None, Some}
 use lib.ListN.{length}
 use lib.Dec.{ltb}
 use Rattle.tables.specs.Tabulate.{tabulate}
@@ -16,10 +16,6 @@ use Rattle.records.specs.Start.{start_vertex}
 use Rattle.records.specs.Check.{among, locations}
 use Rattle.records.specs.declared.command.AttributeDesc.{AttributeDesc}
 use Rattle.records.specs.declared.command.BufferBinding.{BufferBinding}
-use Rattle.records.specs.declared.command.OptionU32.{OptionU32}
-use Rattle.records.specs.declared.command.OptionU32.TheVariants.{None, Some}
-use Rattle.records.specs.declared.pipeline.OptionStencilState.{OptionStencilState}
-use Rattle.records.specs.declared.pipeline.OptionStencilState.TheVariants as stencil
 use Rattle.records.specs.declared.pipeline.PrivateCapabilities.{PrivateCapabilities}
 use Rattle.records.specs.declared.pipeline.RenderPipeline.{RenderPipeline}
 use Rattle.records.specs.declared.state.Phase.{Phase}
@@ -63,7 +59,7 @@ Sane Render later = Unit {0}
 -- ---- the draws
 -- without layouts no attribute is set but at the pipeline's locations
 abbrev pub Bare : PrivateCapabilities → Option RenderPipeline → Shot → Type 0
-Bare caps p s = caps.vertex_buffer_layout ≡ false → (i : ℕ) → among i (locations (attributes_by p)) ≡ false → s.gl.vertices.attribute i ≡ none
+Bare caps p s = caps.vertex_buffer_layout ≡ false → (i : ℕ) → among i (locations (attributes_by p)) ≡ false → s.gl.vertices.attribute i ≡ None
 
 -- a draw finds what is named, and is bare
 abbrev pub Drew : PrivateCapabilities → Shot → Entered → Type 0
@@ -93,7 +89,7 @@ pub record ArgsTied (d : DrawState) (b : Book) : Type 0 where
   pub offset : d.index_offset ≡ b.offset
 
 -- ---- samplers: each unit holds the state's sampler under the unit's number
-pub record Units (x : BindState) (g held : ℕ → OptionU32) : Type 0 where
+pub record Units (x : BindState) (g held : ℕ → Option ℕ) : Type 0 where
   pub samplers_long : length x.samplers ≡ 16
   pub units_long : length x.texture_slots ≡ 16
   pub same : (k : ℕ) → k < 16 → sampler_at x k ≡ held k
@@ -106,7 +102,7 @@ pub record Lazy (f : FixedState) (g : Fixed) : Type 0 where
   pub clip : g.clip ≡ (λ i. ltb i f.clip_distance_count)
   pub targets : tabulate (length (targets_of f)) g.target ≡ targets_of f
   -- the starting primitive, whose front face is 0, is no pipeline's
-  pub primitive : (f.primitive.front_face ≡ 0 → ⊥) → g.primitive ≡ some f.primitive
+  pub primitive : (f.primitive.front_face ≡ 0 → ⊥) → g.primitive ≡ Some f.primitive
 
 -- ---- vertex slots, in the first render pass
 -- what a slot holds at a working instance
@@ -128,14 +124,14 @@ pub record Steady (v : VertexState) : Type 0 where
 
 -- in every pass and between them: without layouts no attribute is set but at the locations of the state's list
 abbrev pub Spare : PrivateCapabilities → VertexState → Vertices → Type 0
-Spare caps v g = caps.vertex_buffer_layout ≡ false → (i : ℕ) → among i (locations (attributes_of v)) ≡ false → g.attribute i ≡ none
+Spare caps v g = caps.vertex_buffer_layout ≡ false → (i : ℕ) → among i (locations (attributes_of v)) ≡ false → g.attribute i ≡ None
 
 pub record Slots (caps : PrivateCapabilities) (v : VertexState) (g : Vertices) (buffer : ℕ → Option BufferBinding) : Type 0 where
   -- a slot that the book has a buffer for is bound to it
   pub bound : (i : ℕ) → i < 16 → has (buffer i) ≡ true → binding_at v i ≡ buffer i
   -- and, described and not dirty, holds what the state says at the working instance that it was last bound with
   pub clean : caps.vertex_buffer_layout ≡ true → (i : ℕ) → i < 16 → has (buffer i) ≡ true → test_bit v.dirty_vbuf_mask i ≡ false → test_bit v.described i ≡ true → test_bit v.bound i ≡ true
-      → g.buffer i ≡ some (slot_buffer v (instance_at v i) i)
+      → g.buffer i ≡ Some (slot_buffer v (instance_at v i) i)
 
 -- ---- the current pipeline, in the first render pass
 pub record Drawn (d : DrawState) (p : RenderPipeline) : Type 0 where
@@ -143,26 +139,26 @@ pub record Drawn (d : DrawState) (p : RenderPipeline) : Type 0 where
   pub location : d.first_instance_location ≡ p.inner.first_instance_location
 
 pub record Set (g : Fixed) (p : RenderPipeline) : Type 0 where
-  pub program : g.program ≡ some p.inner.program
-  pub primitive : g.primitive ≡ some (primitive_state p.primitive)
+  pub program : g.program ≡ Some p.inner.program
+  pub primitive : g.primitive ≡ Some (primitive_state p.primitive)
   pub bias : g.bias ≡ p.depth_bias
   pub alpha : g.alpha ≡ p.alpha_to_coverage_enabled
   pub clip : g.clip ≡ (λ i. ltb i p.inner.clip_distance_count)
   pub targets : tabulate (length (targets_in p)) g.target ≡ targets_in p
-  pub aspects : g.aspects ≡ some (aspects_of p)
-  pub depth : cond (has_depth p.depth) g.depth none ≡ named_depth p.depth
+  pub aspects : g.aspects ≡ Some (aspects_of p)
+  pub depth : cond (has_depth p.depth) g.depth None ≡ named_depth p.depth
 
 -- the state's stencil is the pipeline's but for the reference
 abbrev pub SameSide : StencilSide → StencilSide → Type 0
 SameSide s t = (s.function ≡ t.function) × (s.mask_read ≡ t.mask_read)
 
-abbrev pub SameFuncs : StencilState → OptionStencilState → Type 0
-SameFuncs s stencil.None = Unit {0}
-SameFuncs s (stencil.Some t) = SameSide s.front t.front × SameSide s.back t.back
+abbrev pub SameFuncs : StencilState → Option StencilState → Type 0
+SameFuncs s None = Unit {0}
+SameFuncs s (Some t) = SameSide s.front t.front × SameSide s.back t.back
 
 pub record Stenciled (s : StencilState) (g : Faces) (r : Option References) (p : RenderPipeline) : Type 0 where
   pub funcs : SameFuncs s p.stencil
-  pub faces : cond (has_stencil p.stencil) (faces_of g) none ≡ named_faces r p.stencil
+  pub faces : cond (has_stencil p.stencil) (faces_of g) None ≡ named_faces r p.stencil
 
 pub record Numbered (x : BindState) (p : RenderPipeline) : Type 0 where
   pub number : (u : ℕ) → u < 16 → number_at x u ≡ map_at p.inner u
@@ -181,12 +177,12 @@ pub record Fetched (caps : PrivateCapabilities) (v : VertexState) (g : Vertices)
   pub kept : (i : ℕ) → i < 16 → has (pipe_desc p i) ≡ true → desc_at v i ≡ pipe_desc p i
   pub instances : (i : ℕ) → i < 16 → test_bit v.instance_vbuf_mask i ≡ steps_by_instance (pipe_desc p i)
   -- with layouts each attribute is sent by the pipeline call
-  pub sent : caps.vertex_buffer_layout ≡ true → Each (λ (a : AttributeDesc). g.attribute a.location ≡ some (sent_attribute p a)) (attributes_in p)
+  pub sent : caps.vertex_buffer_layout ≡ true → Each (λ (a : AttributeDesc). g.attribute a.location ≡ Some (sent_attribute p a)) (attributes_in p)
   -- without, the state holds them, and one whose slot is bound and not dirty holds what the state says
   pub held : caps.vertex_buffer_layout ≡ false → attributes_of v ≡ attributes_in p
   pub clean : caps.vertex_buffer_layout ≡ false
       → Each (λ (a : AttributeDesc). test_bit v.dirty_vbuf_mask a.buffer_index ≡ false → test_bit v.bound a.buffer_index ≡ true
-      → g.attribute a.location ≡ some (attribute_buffer v (instance_at v a.buffer_index) a)) (attributes_in p)
+      → g.attribute a.location ≡ Some (attribute_buffer v (instance_at v a.buffer_index) a)) (attributes_in p)
 
 pub record Piped (caps : PrivateCapabilities) (s : State) (g : Gl) (r : Option References) (p : RenderPipeline) : Type 0 where
   pub drawn : Drawn s.draw p
@@ -198,8 +194,8 @@ pub record Piped (caps : PrivateCapabilities) (s : State) (g : Gl) (r : Option R
 -- ---- before the first render pass
 pub record Early (v : VertexState) (pipeline : Option RenderPipeline) (buffer : ℕ → Option BufferBinding) : Type 0 where
   pub vertex : v ≡ start_vertex
-  pub unset : pipeline ≡ none
-  pub empty : (i : ℕ) → buffer i ≡ none
+  pub unset : pipeline ≡ None
+  pub empty : (i : ℕ) → buffer i ≡ None
 
 pub record Tied (caps : PrivateCapabilities) (s : State) (m : Machine) (b : Book) : Type 0 where
   pub stage : m.stage ≡ b.stage
@@ -214,4 +210,4 @@ pub record Tied (caps : PrivateCapabilities) (s : State) (m : Machine) (b : Book
   pub spare : Spare caps s.vertex m.gl.vertices
   pub early : b.stage ≡ before → Early s.vertex b.pipeline b.buffer
   pub slots : First s.progress.phase b.stage → Slots caps s.vertex m.gl.vertices b.buffer
-  pub piped : First s.progress.phase b.stage → (p : RenderPipeline) → b.pipeline ≡ some p → Piped caps s m.gl b.reference p
+  pub piped : First s.progress.phase b.stage → (p : RenderPipeline) → b.pipeline ≡ Some p → Piped caps s m.gl b.reference p

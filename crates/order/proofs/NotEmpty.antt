@@ -3,7 +3,7 @@ use Prim.Native.Nat.{ℕ, zero, suc, ◌<◌}
 use mathlib.Core.Path.{◌≡◌, refl, sym, ap, ◌∙◌, subst}
 use mathlib.Core.Bool.{Bool, true, false, cond}
 use mathlib.Core.List.{List, [], ◌∷◌, ◌++◌, map}
-use mathlib.Core.Option.{Option, none, some}
+use Rattle.std.specs.Prelude.{Option, None, Some}
 use native.Mathlib.Omega.{arith}
 use Rattle.tables.specs.Tabulate.{tabulate}
 use Rattle.names.specs.Maps.{primitive_state}
@@ -49,9 +49,9 @@ abbrev Opened : Book → Type 0
 Opened b = b.stage ≡ first → (known b.viewport ≡ true) × (known b.scissor ≡ true)
 
 source_known : (w offset : ℕ) (d : Option VertexBufferDesc) (x : Option BufferBinding) → known d ≡ true → known x ≡ true → known (named_source w offset d x) ≡ true
-source_known w offset none x e q = false-true e
-source_known w offset (some d) none e q = false-true q
-source_known w offset (some d) (some x) e q = refl
+source_known w offset None x e q = false-true e
+source_known w offset (Some d) None e q = false-true q
+source_known w offset (Some d) (Some x) e q = refl
 
 complete-named : (b : Book) (R : Ready b) (w : ℕ) (indexed : Bool) (c : Command) → vertex_out_of_range R.pipeline ≡ false → vertex_absent R.pipeline ≡ false
     → (known b.viewport ≡ true) × (known b.scissor ≡ true) → Complete (names b w indexed c)

@@ -3,7 +3,9 @@ use Prim.Native.Nat.{ℕ, ◌+◌, ◌*◌}
 use mathlib.Core.Path.{◌≡◌, refl, ap, ap₂, ◌∙◌}
 use mathlib.Core.Bool.{Bool, cond}
 use mathlib.Core.List.{List, [], ◌∷◌}
-use mathlib.Core.Option.{Option, none, some}
+use Rattle.std.specs.Prelude.{Option, None, Some}
+use Rattle.records.specs.declared.command.DepthState.{DepthState}
+use Rattle.names.specs.declared.gl.StencilState.{StencilState}
 use lib.Dec.{ltb}
 use lib.IntN.{ℤ, pos, ◌+ℤ◌}
 use lib.ListN.{get_or}
@@ -16,22 +18,15 @@ use Rattle.records.specs.declared.binding.BufferBindingType.TheVariants.{Uniform
 use Rattle.records.specs.declared.binding.Content.{Content}
 use Rattle.records.specs.declared.binding.RawBinding.{RawBinding}
 use Rattle.records.specs.declared.binding.RawBinding.TheVariants as content
-use Rattle.records.specs.declared.command.OptionU32.TheVariants.{Some}
 use Rattle.records.specs.declared.command.VertexBufferDesc.{VertexBufferDesc}
 use Rattle.records.specs.declared.command.VertexStepMode.{VertexStepMode}
 use Rattle.records.specs.declared.command.VertexStepMode.TheVariants.{Vertex, Instance}
-use Rattle.records.specs.declared.pipeline.OptionDepthState.{OptionDepthState}
-use Rattle.records.specs.declared.pipeline.OptionDepthState.TheVariants as depth
-use Rattle.records.specs.declared.pipeline.OptionStencilState.{OptionStencilState}
-use Rattle.records.specs.declared.pipeline.OptionStencilState.TheVariants as stencil
-use Rattle.records.specs.declared.pipeline.OptionVertexBufferDesc.{OptionVertexBufferDesc}
-use Rattle.records.specs.declared.pipeline.OptionVertexBufferDesc.TheVariants as layout
 use Rattle.records.specs.declared.pipeline.RenderPipeline.{RenderPipeline}
 use Rattle.records.specs.declared.state.IndexFormat.{IndexFormat}
 use Rattle.records.specs.declared.state.IndexFormat.TheVariants.{Uint16, Uint32}
 use Rattle.slots.specs.Prepare.{instance_offset}
 use Rattle.bindings.specs.Group.{Entry, zipped, head_or, rest, dynamic, buffer_target, offset_of, offsets_after}
-use Rattle.pipeline.specs.Vertex.{described, pipe_desc, has}
+use Rattle.pipeline.specs.Vertex.{pipe_desc, has}
 use Rattle.pipeline.specs.Fixed.{depth_aspect, stencil_aspect}
 use Rattle.calls.specs.Draws.{index_type_of, index_size}
 use Rattle.machine.specs.View.{Stage, before, first, later}
@@ -39,16 +34,16 @@ use Rattle.machine.specs.Machine.{onward}
 use Rattle.book.specs.Book.{Bound, given, describes, known, if_instance, has_depth, has_stencil, type_of, size_of, target_of, is_dynamic, next_of, left_of, offsets_left, offset_in, enter_entry, enter_group, next_stage}
 
 -- ---- pipelines
-given_is : (o : OptionVertexBufferDesc) → given o ≡ described o
-given_is layout.None = refl
-given_is (layout.Some d) = refl
+given_is : (o : Option VertexBufferDesc) → given o ≡ o
+given_is None = refl
+given_is (Some d) = refl
 
 pub describes-is : (p : RenderPipeline) (i : ℕ) → describes p i ≡ pipe_desc p i
-describes-is p i = ap (λ (o : Option VertexBufferDesc). cond (ltb i p.vertex_buffer_count) o none) (given_is (get_or p.vertex_buffers i (record { desc = layout.None })).desc)
+describes-is p i = ap (λ (o : Option VertexBufferDesc). cond (ltb i p.vertex_buffer_count) o None) (given_is (get_or p.vertex_buffers i (record { desc = None })).desc)
 
 pub known_is : {A : Type 0} (o : Option A) → known o ≡ has o
-known_is none = refl
-known_is (some a) = refl
+known_is None = refl
+known_is (Some a) = refl
 
 pub described-is : (p : RenderPipeline) (i : ℕ) → known (describes p i) ≡ has (pipe_desc p i)
 described-is p i = known_is (describes p i) ∙ ap has (describes-is p i)
@@ -58,19 +53,19 @@ stepped-is Vertex w stride = refl
 stepped-is Instance w stride = refl
 
 -- the two bits of the aspects
-pub depth-flag : (d : OptionDepthState) (s : OptionStencilState) → test_bit (depth_aspect d + stencil_aspect s) 1 ≡ has_depth d
+pub depth-flag : (d : Option DepthState) (s : Option StencilState) → test_bit (depth_aspect d + stencil_aspect s) 1 ≡ has_depth d
 unfolding test_bit
-depth-flag depth.None stencil.None = refl
-depth-flag depth.None (stencil.Some s) = refl
-depth-flag (depth.Some d) stencil.None = refl
-depth-flag (depth.Some d) (stencil.Some s) = refl
+depth-flag None None = refl
+depth-flag None (Some s) = refl
+depth-flag (Some d) None = refl
+depth-flag (Some d) (Some s) = refl
 
-pub stencil-flag : (d : OptionDepthState) (s : OptionStencilState) → test_bit (depth_aspect d + stencil_aspect s) 2 ≡ has_stencil s
+pub stencil-flag : (d : Option DepthState) (s : Option StencilState) → test_bit (depth_aspect d + stencil_aspect s) 2 ≡ has_stencil s
 unfolding test_bit
-stencil-flag depth.None stencil.None = refl
-stencil-flag depth.None (stencil.Some s) = refl
-stencil-flag (depth.Some d) stencil.None = refl
-stencil-flag (depth.Some d) (stencil.Some s) = refl
+stencil-flag None None = refl
+stencil-flag None (Some s) = refl
+stencil-flag (Some d) None = refl
+stencil-flag (Some d) (Some s) = refl
 
 -- ---- draws
 pub type-is : (f : IndexFormat) → type_of f ≡ index_type_of f
@@ -90,14 +85,14 @@ stage_is later = refl
 abbrev pub entry_bound : BindGroupLayoutEntry → RawBinding → List ℕ → Bound → Bound
 entry_bound e (content.Buffer raw offset size) os b =
     record {
-      buffers = upd b.buffers (buffer_target e.ty) (upd (b.buffers (buffer_target e.ty)) e.slot (some (record { buffer = raw; offset = offset_of e offset os; size = size })));
+      buffers = upd b.buffers (buffer_target e.ty) (upd (b.buffers (buffer_target e.ty)) e.slot (Some (record { buffer = raw; offset = offset_of e offset os; size = size })));
       textures = b.textures;
       images = b.images;
       samplers = b.samplers;
     }
 entry_bound e (content.Texture raw target aspects mips) os b =
-    record { buffers = b.buffers; textures = upd b.textures e.slot (some (record { texture = raw; target = target; aspects = aspects; mips = mips })); images = b.images; samplers = b.samplers }
-entry_bound e (content.Image x) os b = record { buffers = b.buffers; textures = b.textures; images = upd b.images e.slot (some x); samplers = b.samplers }
+    record { buffers = b.buffers; textures = upd b.textures e.slot (Some (record { texture = raw; target = target; aspects = aspects; mips = mips })); images = b.images; samplers = b.samplers }
+entry_bound e (content.Image x) os b = record { buffers = b.buffers; textures = b.textures; images = upd b.images e.slot (Some x); samplers = b.samplers }
 entry_bound e (content.Sampler k) os b = record { buffers = b.buffers; textures = b.textures; images = b.images; samplers = upd b.samplers e.slot (Some k) }
 
 unfoldable pub group_bound : List Entry → List ℕ → Bound → Bound
@@ -139,7 +134,7 @@ entry-is e (content.Buffer raw offset size) os b =
     ap₂
     (λ (t : ℕ) (o : ℤ).
     record {
-      buffers = upd b.buffers t (upd (b.buffers t) e.slot (some (record { buffer = raw; offset = o; size = size })));
+      buffers = upd b.buffers t (upd (b.buffers t) e.slot (Some (record { buffer = raw; offset = o; size = size })));
       textures = b.textures;
       images = b.images;
       samplers = b.samplers;

@@ -1,7 +1,7 @@
 -- Document 02, request 5, pass by pass: from outside of a render pass on, as long as what follows is even, the Rust's rule records the same, whatever was recorded before. Assumes nothing.
 use Prim.Native.Nat.{ℕ}
 use mathlib.Core.Path.{◌≡◌, ap, ◌∙◌, subst}
-use mathlib.Core.Option.{none}
+use Rattle.std.specs.Prelude.{None}
 use Rattle.records.specs.declared.pipeline.PrivateCapabilities.{PrivateCapabilities}
 use Rattle.records.specs.declared.state.State.{State}
 use Rattle.calls.specs.Did.{rooms_of}
@@ -17,7 +17,7 @@ use Rattle.order.proofs.AsRust.{Twins, all-steps}
 use Rattle.order.proofs.Rest.{Quiet, all-rested, begun-rested, rest-of-run}
 
 -- where no slot is dirty and none has a number both rules go on alike, the one number 0
-at_rest : (caps : PrivateCapabilities) (s : State) → Quiet s.vertex → Twins caps none s 0 (numbered 0 s)
+at_rest : (caps : PrivateCapabilities) (s : State) → Quiet s.vertex → Twins caps None s 0 (numbered 0 s)
 at_rest caps s q =
     record {
       dirty = 0;
@@ -28,7 +28,7 @@ at_rest caps s q =
 -- THE LIST IS THE RUST'S in every stretch of even passes, and so are the answers
 pub as-rust : AsRust
 as-rust caps rooms s before calls e o E =
-    all-steps caps rooms none x.state x.state 0 x.list x.bytes x.queries calls
+    all-steps caps rooms None x.state x.state 0 x.list x.bytes x.queries calls
     (at_rest caps x.state (all-rested caps rooms (begun caps rooms s) before (begun-rested caps rooms s e) o)) E
   where
     x : Recording
@@ -53,5 +53,5 @@ as-rust-of-run caps s₀ s₁ s' r₀ r r₁ r' a before calls d e B o R E = (
         × (fed caps (rooms_of r₁) s₁ calls ≡ rust_fed caps (rooms_of r₁) s₁ 0 calls)
     both =
         let x = recording_of s₁ r₁ in
-        all-steps caps (rooms_of r₁) none s₁ s₁ 0 x.list x.bytes x.queries calls (at_rest caps s₁ (rest-of-run caps s₀ s₁ r₀ r r₁ a before d e B o))
-        (subst (EvenWhere caps none) same E)
+        all-steps caps (rooms_of r₁) None s₁ s₁ 0 x.list x.bytes x.queries calls (at_rest caps s₁ (rest-of-run caps s₀ s₁ r₀ r r₁ a before d e B o))
+        (subst (EvenWhere caps None) same E)

@@ -3,7 +3,7 @@ use Prim.Native.Nat.{ℕ, suc, ◌+◌, ◌<◌}
 use mathlib.Core.Path.{◌≡◌, refl, sym, ap, ap₂, ◌∙◌}
 use mathlib.Core.Bool.{Bool, true, false, cond, not, ◌&&◌}
 use mathlib.Core.List.{List, [], ◌∷◌, ◌++◌}
-use mathlib.Core.Option.{Option, none, some}
+use Rattle.std.specs.Prelude.{Option, None, Some}
 use native.Mathlib.Nat.{add-zero, add-suc, suc-add}
 use native.Mathlib.Omega.{arith}
 use lib.Dec.{eqb, ltb}
@@ -23,11 +23,6 @@ use Rattle.records.specs.declared.command.Command.{Command}
 use Rattle.records.specs.declared.command.Command.TheVariants.{SetPrimitive, SetDepthBias, ConfigureDepthStencil, SetAlphaToCoverage, SetColorTarget, SetClipDistances}
 use Rattle.records.specs.declared.command.ColorTargetDesc.{ColorTargetDesc}
 use Rattle.records.specs.declared.command.DepthState.{DepthState}
-use Rattle.records.specs.declared.command.OptionU32.TheVariants.{None, Some}
-use Rattle.records.specs.declared.pipeline.OptionDepthState.{OptionDepthState}
-use Rattle.records.specs.declared.pipeline.OptionDepthState.TheVariants as depth
-use Rattle.records.specs.declared.pipeline.OptionStencilState.{OptionStencilState}
-use Rattle.records.specs.declared.pipeline.OptionStencilState.TheVariants as stencil
 use Rattle.records.specs.declared.pipeline.RenderPipeline.{RenderPipeline}
 use Rattle.records.specs.declared.state.FixedState.{FixedState}
 use Rattle.pipeline.specs.Fixed.{only, stencil_func, stencil_funcs, stencil_op, stencil_ops, depth_commands, stencil_commands, aspects_of, stencil_or, targets_in, targets_of, same_targets, all_same, each_target, target_commands, fixed_commands, pipeline_fixed}
@@ -123,10 +118,10 @@ abbrev ops_of : StencilSide → FaceOps
 ops_of s = record { write = s.mask_write; ops = s.ops }
 
 abbrev pub with_funcs : StencilState → Machine → Machine
-with_funcs s m = with_faces (record { front = some (func_of s.front); back = some (func_of s.back); front_ops = m.gl.faces.front_ops; back_ops = m.gl.faces.back_ops }) m
+with_funcs s m = with_faces (record { front = Some (func_of s.front); back = Some (func_of s.back); front_ops = m.gl.faces.front_ops; back_ops = m.gl.faces.back_ops }) m
 
 abbrev with_ops : StencilState → Machine → Machine
-with_ops s m = with_faces (record { front = m.gl.faces.front; back = m.gl.faces.back; front_ops = some (ops_of s.front); back_ops = some (ops_of s.back) }) m
+with_ops s m = with_faces (record { front = m.gl.faces.front; back = m.gl.faces.back; front_ops = Some (ops_of s.front); back_ops = Some (ops_of s.back) }) m
 
 pub play-funcs : (s : StencilState) (m : Machine) → play m (stencil_funcs s) ≡ with_funcs s m
 play-funcs s m = go (same_stencil_func s.front s.back) refl
@@ -135,7 +130,7 @@ play-funcs s m = go (same_stencil_func s.front s.back) refl
         → play m (cond t (stencil_func GL_FRONT_AND_BACK s.front ∷ []) (stencil_func GL_FRONT s.front ∷ stencil_func GL_BACK s.back ∷ [])) ≡ with_funcs s m
     go true e =
         let q = stencil-func.equal s.front s.back e in
-        λ j. with_faces (record { front = some (func_of s.front); back = some (record { function = (q j).0; reference = (q j).1.1; read = (q j).1.0 }); front_ops = m.gl.faces.front_ops; back_ops = m.gl.faces.back_ops }) m
+        λ j. with_faces (record { front = Some (func_of s.front); back = Some (record { function = (q j).0; reference = (q j).1.1; read = (q j).1.0 }); front_ops = m.gl.faces.front_ops; back_ops = m.gl.faces.back_ops }) m
     go false e = refl
 
 play-ops : (s : StencilState) (m : Machine) → play m (stencil_ops s) ≡ with_ops s m
@@ -146,34 +141,34 @@ play-ops s m = go (same_stencil_ops s.front.ops s.back.ops) (eqb s.front.mask_wr
     go true true e f =
         let p = stencil-ops.equal s.front.ops s.back.ops e in
         let q = number.equal s.front.mask_write s.back.mask_write f in
-        λ j. with_faces (record { front = m.gl.faces.front; back = m.gl.faces.back; front_ops = some (ops_of s.front); back_ops = some (record { write = q j; ops = p j }) }) m
+        λ j. with_faces (record { front = m.gl.faces.front; back = m.gl.faces.back; front_ops = Some (ops_of s.front); back_ops = Some (record { write = q j; ops = p j }) }) m
     go true false e f = refl
     go false u e f = refl
 
-abbrev stencil_after : OptionStencilState → Faces → Faces
-stencil_after stencil.None g = g
-stencil_after (stencil.Some s) g = record { front = some (func_of s.front); back = some (func_of s.back); front_ops = some (ops_of s.front); back_ops = some (ops_of s.back) }
+abbrev stencil_after : Option StencilState → Faces → Faces
+stencil_after None g = g
+stencil_after (Some s) g = record { front = Some (func_of s.front); back = Some (func_of s.back); front_ops = Some (ops_of s.front); back_ops = Some (ops_of s.back) }
 
-play-stencil : (o : OptionStencilState) (m : Machine) → play m (stencil_commands o) ≡ with_faces (stencil_after o m.gl.faces) m
-play-stencil stencil.None m = refl
-play-stencil (stencil.Some s) m = play-append m (stencil_funcs s) (stencil_ops s) ∙ ap (λ (n : Machine). play n (stencil_ops s)) (play-funcs s m) ∙ play-ops s (with_funcs s m)
+play-stencil : (o : Option StencilState) (m : Machine) → play m (stencil_commands o) ≡ with_faces (stencil_after o m.gl.faces) m
+play-stencil None m = refl
+play-stencil (Some s) m = play-append m (stencil_funcs s) (stencil_ops s) ∙ ap (λ (n : Machine). play n (stencil_ops s)) (play-funcs s m) ∙ play-ops s (with_funcs s m)
 
 -- ---- depth
-abbrev depth_after : OptionDepthState → Option DepthState → Option DepthState
-depth_after depth.None old = old
-depth_after (depth.Some d) old = some d
+abbrev depth_after : Option DepthState → Option DepthState → Option DepthState
+depth_after None old = old
+depth_after (Some d) old = Some d
 
 -- ---- the whole part, on the machine
 abbrev pub fixed_after : RenderPipeline → FixedState → Fixed → Fixed
 fixed_after p f g =
     record {
       program = g.program;
-      primitive = cond (not (same_primitive (primitive_state p.primitive) f.primitive)) (some (primitive_state p.primitive)) g.primitive;
+      primitive = cond (not (same_primitive (primitive_state p.primitive) f.primitive)) (Some (primitive_state p.primitive)) g.primitive;
       bias = cond (not (same_depth_bias p.depth_bias f.depth_bias)) p.depth_bias g.bias;
       alpha = cond (not (same_bool p.alpha_to_coverage_enabled f.alpha_to_coverage_enabled)) p.alpha_to_coverage_enabled g.alpha;
       target = cond (same_targets (targets_of f) (targets_in p)) g.target (targets_played (targets_in p) g.target);
       clip = cond (not (eqb p.inner.clip_distance_count f.clip_distance_count)) (switched f.clip_distance_count p.inner.clip_distance_count g.clip) g.clip;
-      aspects = some (aspects_of p);
+      aspects = Some (aspects_of p);
       depth = depth_after p.depth g.depth;
     }
 
@@ -202,12 +197,12 @@ module _ (p : RenderPipeline) (f : FixedState) where
   run_primitive = only t1 (SetPrimitive (primitive_state p.primitive))
 
   abbrev to_primitive : Machine → Machine
-  to_primitive m = with_fixed (record { program = m.gl.fixed.program; primitive = cond t1 (some (primitive_state p.primitive)) m.gl.fixed.primitive; bias = m.gl.fixed.bias; alpha = m.gl.fixed.alpha; target = m.gl.fixed.target; clip = m.gl.fixed.clip; aspects = m.gl.fixed.aspects; depth = m.gl.fixed.depth }) m
+  to_primitive m = with_fixed (record { program = m.gl.fixed.program; primitive = cond t1 (Some (primitive_state p.primitive)) m.gl.fixed.primitive; bias = m.gl.fixed.bias; alpha = m.gl.fixed.alpha; target = m.gl.fixed.target; clip = m.gl.fixed.clip; aspects = m.gl.fixed.aspects; depth = m.gl.fixed.depth }) m
 
   by_primitive : (m : Machine) → play m run_primitive ≡ to_primitive m
   by_primitive m = go t1
     where
-      go : (t : Bool) → play m (only t (SetPrimitive (primitive_state p.primitive))) ≡ with_fixed (record { program = m.gl.fixed.program; primitive = cond t (some (primitive_state p.primitive)) m.gl.fixed.primitive; bias = m.gl.fixed.bias; alpha = m.gl.fixed.alpha; target = m.gl.fixed.target; clip = m.gl.fixed.clip; aspects = m.gl.fixed.aspects; depth = m.gl.fixed.depth }) m
+      go : (t : Bool) → play m (only t (SetPrimitive (primitive_state p.primitive))) ≡ with_fixed (record { program = m.gl.fixed.program; primitive = cond t (Some (primitive_state p.primitive)) m.gl.fixed.primitive; bias = m.gl.fixed.bias; alpha = m.gl.fixed.alpha; target = m.gl.fixed.target; clip = m.gl.fixed.clip; aspects = m.gl.fixed.aspects; depth = m.gl.fixed.depth }) m
       go true = refl
       go false = refl
 
@@ -233,9 +228,9 @@ module _ (p : RenderPipeline) (f : FixedState) where
   by_depth : (m : Machine) → play m run_depth ≡ to_depth m
   by_depth m = go p.depth
     where
-      go : (o : OptionDepthState) → play m (depth_commands o) ≡ with_fixed (record { program = m.gl.fixed.program; primitive = m.gl.fixed.primitive; bias = m.gl.fixed.bias; alpha = m.gl.fixed.alpha; target = m.gl.fixed.target; clip = m.gl.fixed.clip; aspects = m.gl.fixed.aspects; depth = depth_after o m.gl.fixed.depth }) m
-      go depth.None = refl
-      go (depth.Some d) = refl
+      go : (o : Option DepthState) → play m (depth_commands o) ≡ with_fixed (record { program = m.gl.fixed.program; primitive = m.gl.fixed.primitive; bias = m.gl.fixed.bias; alpha = m.gl.fixed.alpha; target = m.gl.fixed.target; clip = m.gl.fixed.clip; aspects = m.gl.fixed.aspects; depth = depth_after o m.gl.fixed.depth }) m
+      go None = refl
+      go (Some d) = refl
 
   abbrev run_stencil : List Command
   run_stencil = stencil_commands p.stencil
@@ -250,7 +245,7 @@ module _ (p : RenderPipeline) (f : FixedState) where
   run_aspects = ConfigureDepthStencil (aspects_of p) ∷ []
 
   abbrev to_aspects : Machine → Machine
-  to_aspects m = with_fixed (record { program = m.gl.fixed.program; primitive = m.gl.fixed.primitive; bias = m.gl.fixed.bias; alpha = m.gl.fixed.alpha; target = m.gl.fixed.target; clip = m.gl.fixed.clip; aspects = some (aspects_of p); depth = m.gl.fixed.depth }) m
+  to_aspects m = with_fixed (record { program = m.gl.fixed.program; primitive = m.gl.fixed.primitive; bias = m.gl.fixed.bias; alpha = m.gl.fixed.alpha; target = m.gl.fixed.target; clip = m.gl.fixed.clip; aspects = Some (aspects_of p); depth = m.gl.fixed.depth }) m
 
   by_aspects : (m : Machine) → play m run_aspects ≡ to_aspects m
   by_aspects m = refl
@@ -365,17 +360,17 @@ module _ (p : RenderPipeline) (f : FixedState) where
   play-fixed m = from_primitive m
 
   -- ---- what the machine then has
-  primitive-set : (g : Fixed) → Lazy f g → (fixed_after p f g).primitive ≡ some (primitive_state p.primitive)
+  primitive-set : (g : Fixed) → Lazy f g → (fixed_after p f g).primitive ≡ Some (primitive_state p.primitive)
   primitive-set g L = go (same_primitive (primitive_state p.primitive) f.primitive) refl
     where
       faced : (n : FrontFace) → front_face_of n ≡ 0 → ⊥
       faced Ccw e = omega arith
       faced Cw e = omega arith
 
-      go : (t : Bool) → same_primitive (primitive_state p.primitive) f.primitive ≡ t → cond (not t) (some (primitive_state p.primitive)) g.primitive ≡ some (primitive_state p.primitive)
+      go : (t : Bool) → same_primitive (primitive_state p.primitive) f.primitive ≡ t → cond (not t) (Some (primitive_state p.primitive)) g.primitive ≡ Some (primitive_state p.primitive)
       go true e =
           let q = primitive.equal (primitive_state p.primitive) f.primitive e in
-          L.primitive (λ z. faced p.primitive.front_face (ap (λ (x : PrimitiveState). x.front_face) q ∙ z)) ∙ ap some (sym q)
+          L.primitive (λ z. faced p.primitive.front_face (ap (λ (x : PrimitiveState). x.front_face) q ∙ z)) ∙ ap Some (sym q)
       go false e = refl
 
   bias-set : (g : Fixed) → Lazy f g → (fixed_after p f g).bias ≡ p.depth_bias
@@ -414,14 +409,14 @@ module _ (p : RenderPipeline) (f : FixedState) where
           ap (λ (l : List ColorTargetDesc). tabulate (length l) g.target) (sym q) ∙ L.targets ∙ q
       go false e = targets-table (targets_in p) g.target
 
-  depth-set : (g : Fixed) → cond (has_depth p.depth) (fixed_after p f g).depth none ≡ named_depth p.depth
+  depth-set : (g : Fixed) → cond (has_depth p.depth) (fixed_after p f g).depth None ≡ named_depth p.depth
   depth-set g = go p.depth
     where
-      go : (o : OptionDepthState) → cond (has_depth o) (depth_after o g.depth) none ≡ named_depth o
-      go depth.None = refl
-      go (depth.Some d) = refl
+      go : (o : Option DepthState) → cond (has_depth o) (depth_after o g.depth) None ≡ named_depth o
+      go None = refl
+      go (Some d) = refl
 
-  pub set-piped : (g : Fixed) → Lazy f g → g.program ≡ some p.inner.program → Set (fixed_after p f g) p
+  pub set-piped : (g : Fixed) → Lazy f g → g.program ≡ Some p.inner.program → Set (fixed_after p f g) p
   set-piped g L e =
       record {
         program = e;
@@ -440,10 +435,10 @@ module _ (p : RenderPipeline) (f : FixedState) where
   pub stencil-piped : (g : Faces) → Stenciled (pipeline_fixed p f).stencil (faces_after p g) (reference_of p.stencil) p
   stencil-piped g = record { funcs = funcs p.stencil; faces = faces p.stencil }
     where
-      funcs : (o : OptionStencilState) → SameFuncs (stencil_or f.stencil o) o
-      funcs stencil.None = tt
-      funcs (stencil.Some s) = ((refl, refl), (refl, refl))
+      funcs : (o : Option StencilState) → SameFuncs (stencil_or f.stencil o) o
+      funcs None = tt
+      funcs (Some s) = ((refl, refl), (refl, refl))
 
-      faces : (o : OptionStencilState) → cond (has_stencil o) (faces_of (stencil_after o g)) none ≡ named_faces (reference_of o) o
-      faces stencil.None = refl
-      faces (stencil.Some s) = refl
+      faces : (o : Option StencilState) → cond (has_stencil o) (faces_of (stencil_after o g)) None ≡ named_faces (reference_of o) o
+      faces None = refl
+      faces (Some s) = refl

@@ -3,7 +3,7 @@ use Prim.Native.Nat.{ℕ, ◌+◌, ◌<◌}
 use mathlib.Core.Path.{◌≡◌, refl, sym, ap, ◌∙◌, subst}
 use mathlib.Core.Bool.{Bool, true, false, cond, ◌||◌}
 use mathlib.Core.List.{List, [], ◌∷◌}
-use mathlib.Core.Option.{Option, none, some}
+use Rattle.std.specs.Prelude.{Option, None, Some}
 use lib.Dec.{eqb}
 use lib.ListN.{take}
 use borrow.Author.Tests.{eqb-true}
@@ -34,8 +34,8 @@ use Rattle.order.proofs.Prepared.{desc-some, members, Ranged, ranged-each}
 
 -- the pipeline's description where it has one, and else the state's
 abbrev pub or_old : Option VertexBufferDesc → Option VertexBufferDesc → Option VertexBufferDesc
-or_old none old = old
-or_old (some d) old = some d
+or_old None old = old
+or_old (Some d) old = Some d
 
 step_back : (s : VertexStepMode) → step_of (is_instance s) ≡ s
 step_back Vertex = refl
@@ -71,55 +71,55 @@ module _ (caps : PrivateCapabilities) (p : RenderPipeline) (v : VertexState) whe
       let a = described-bit i l in
       let b = step-bit i l in
       let c = slot_is i l in
-      (λ j. cond (a j) (some (record { step = step_of (b j); stride = (c j).stride })) none) ∙ go (pipe_desc p i) (test_bit v.described i) (test_bit v.by_instance i) (slot_at v i)
+      (λ j. cond (a j) (Some (record { step = step_of (b j); stride = (c j).stride })) None) ∙ go (pipe_desc p i) (test_bit v.described i) (test_bit v.by_instance i) (slot_at v i)
     where
       go : (o : Option VertexBufferDesc) (t b : Bool) (s : VertexSlot)
-          → cond (t || has o) (some (record { step = step_of (step_or b o); stride = (described_slot o s).stride })) none ≡ or_old o (cond t (some (record { step = step_of b; stride = s.stride })) none)
-      go none true b s = refl
-      go none false b s = refl
-      go (some d) true b s = λ j. some (record { step = step_back d.step j; stride = d.stride })
-      go (some d) false b s = λ j. some (record { step = step_back d.step j; stride = d.stride })
+          → cond (t || has o) (Some (record { step = step_of (step_or b o); stride = (described_slot o s).stride })) None ≡ or_old o (cond t (Some (record { step = step_of b; stride = s.stride })) None)
+      go None true b s = refl
+      go None false b s = refl
+      go (Some d) true b s = λ j. Some (record { step = step_back d.step j; stride = d.stride })
+      go (Some d) false b s = λ j. Some (record { step = step_back d.step j; stride = d.stride })
 
   raw-is : (i : ℕ) → i < 16 → (slot_at v' i).raw ≡ (slot_at v i).raw
   raw-is i l = ap (λ (s : VertexSlot). s.raw) (slot_is i l) ∙ go (pipe_desc p i)
     where
       go : (o : Option VertexBufferDesc) → (described_slot o (slot_at v i)).raw ≡ (slot_at v i).raw
-      go none = refl
-      go (some d) = refl
+      go None = refl
+      go (Some d) = refl
 
   offset-is : (i : ℕ) → i < 16 → (slot_at v' i).offset ≡ (slot_at v i).offset
   offset-is i l = ap (λ (s : VertexSlot). s.offset) (slot_is i l) ∙ go (pipe_desc p i)
     where
       go : (o : Option VertexBufferDesc) → (described_slot o (slot_at v i)).offset ≡ (slot_at v i).offset
-      go none = refl
-      go (some d) = refl
+      go None = refl
+      go (Some d) = refl
 
   binding-after : (i : ℕ) → i < 16 → binding_at v' i ≡ binding_at v i
-  binding-after i l = let r = raw-is i l in let o = offset-is i l in λ j. cond (test_bit v.bound i) (some (record { raw = r j; offset = o j })) none
+  binding-after i l = let r = raw-is i l in let o = offset-is i l in λ j. cond (test_bit v.bound i) (Some (record { raw = r j; offset = o j })) None
 
   kept-after : (i : ℕ) → i < 16 → has (pipe_desc p i) ≡ true → desc_at v' i ≡ pipe_desc p i
   kept-after i l h = desc-after i l ∙ go (pipe_desc p i) h
     where
       go : (o : Option VertexBufferDesc) → has o ≡ true → or_old o (desc_at v i) ≡ o
-      go none e = false-true e
-      go (some d) e = refl
+      go None e = false-true e
+      go (Some d) e = refl
 
   -- a slot that stays clean has the description that it had
   unchanged : (i : ℕ) → i < 16 → changes (pipe_desc p i) (desc_at v i) ≡ false → test_bit v'.described i ≡ true → (test_bit v.described i ≡ true) × (slot_desc v' i ≡ slot_desc v i)
   unchanged i l c d =
       let e = go (pipe_desc p i) (desc_at v i) c in
       let old = desc-after i l ∙ e in
-      let new : desc_at v i ≡ some (slot_desc v' i) = sym old ∙ ap (λ (t : Bool). cond t (some (slot_desc v' i)) none) d in
-      let r = desc-some v i (some (slot_desc v' i)) new refl in
+      let new : desc_at v i ≡ Some (slot_desc v' i) = sym old ∙ ap (λ (t : Bool). cond t (Some (slot_desc v' i)) None) d in
+      let r = desc-some v i (Some (slot_desc v' i)) new refl in
       (r.0, some_same (slot_desc v' i) (slot_desc v i) r.1)
     where
-      some_same : (x y : VertexBufferDesc) → some x ≡ some y → x ≡ y
+      some_same : (x y : VertexBufferDesc) → Some x ≡ Some y → x ≡ y
       some_same x y e = cc
 
       go : (o old : Option VertexBufferDesc) → changes o old ≡ false → or_old o old ≡ old
-      go none old e = refl
-      go (some x) none e = true-false e
-      go (some x) (some y) e = ap some (same-desc x y (not-false (same_desc x y) e))
+      go None old e = refl
+      go (Some x) None e = true-false e
+      go (Some x) (Some y) e = ap Some (same-desc x y (not-false (same_desc x y) e))
 
   dirty-was : (i : ℕ) → i < 16 → test_bit v'.dirty_vbuf_mask i ≡ false → (test_bit (dirty_before caps p v) i ≡ false) × (changes (pipe_desc p i) (desc_at v i) ≡ false)
   dirty-was i l e =
@@ -143,13 +143,13 @@ module _ (caps : PrivateCapabilities) (p : RenderPipeline) (v : VertexState) whe
       }
     where
       clean : caps.vertex_buffer_layout ≡ true → (i : ℕ) → i < 16 → has (buffer i) ≡ true → test_bit v'.dirty_vbuf_mask i ≡ false → test_bit v'.described i ≡ true → test_bit v'.bound i ≡ true
-          → g'.buffer i ≡ some (slot_buffer v' (instance_at v' i) i)
+          → g'.buffer i ≡ Some (slot_buffer v' (instance_at v' i) i)
       clean layout i l h e d b =
           let was = dirty-was i l e in
           let u = unchanged i l was.1 d in
           ap (λ (f : ℕ → Option VertexBuffer). f i) (kept layout)
           ∙ S.clean layout i l h (subst (λ (t : Bool). test_bit (cond t v.dirty_vbuf_mask (mask_by 16 (λ i. among i (slots_of (attributes_in p))))) i ≡ false) layout was.0) u.0 b
-          ∙ ap some (sym (buffer-same (instance_at v i) i l u.1))
+          ∙ ap Some (sym (buffer-same (instance_at v i) i l u.1))
 
   -- ---- the pipeline's attributes
   instances-after : (i : ℕ) → i < 16 → test_bit v'.instance_vbuf_mask i ≡ steps_by_instance (pipe_desc p i)
@@ -172,13 +172,13 @@ module _ (caps : PrivateCapabilities) (p : RenderPipeline) (v : VertexState) whe
       go (a ∷ l) h e = (dirty-at a.buffer_index h.0 e.0, go l h.1 e.1)
 
   abbrev set_act : AttributeDesc → Vertices → Vertices
-  set_act a x = put_attribute a.location (some (sent_attribute p a)) x
+  set_act a x = put_attribute a.location (Some (sent_attribute p a)) x
 
   -- with layouts each attribute is sent
-  sent-after : vertex_out_of_range p ≡ false → vertex_twice p ≡ false → (g : Vertices) → Each (λ (a : AttributeDesc). (folded set_act (attributes_in p) g).attribute a.location ≡ some (sent_attribute p a)) (attributes_in p)
+  sent-after : vertex_out_of_range p ≡ false → vertex_twice p ≡ false → (g : Vertices) → Each (λ (a : AttributeDesc). (folded set_act (attributes_in p) g).attribute a.location ≡ Some (sent_attribute p a)) (attributes_in p)
   sent-after r t g =
-      all_set set_act (λ (x : Vertices). x.attribute) (λ (a : AttributeDesc). some (sent_attribute p a))
-      (λ a x. upd_same x.attribute a.location (some (sent_attribute p a))) (λ a x i ne. upd_other x.attribute a.location i (some (sent_attribute p a)) ne)
+      all_set set_act (λ (x : Vertices). x.attribute) (λ (a : AttributeDesc). Some (sent_attribute p a))
+      (λ a x. upd_same x.attribute a.location (Some (sent_attribute p a))) (λ a x i ne. upd_other x.attribute a.location i (Some (sent_attribute p a)) ne)
       (attributes_in p) t g
 
   pub fetched-piped : vertex_out_of_range p ≡ false → vertex_absent p ≡ false → vertex_twice p ≡ false → (g g' : Vertices)
@@ -190,7 +190,7 @@ module _ (caps : PrivateCapabilities) (p : RenderPipeline) (v : VertexState) whe
         apart = t;
         kept = kept-after;
         instances = instances-after;
-        sent = λ layout. subst (λ (x : Vertices). Each (λ (a : AttributeDesc). x.attribute a.location ≡ some (sent_attribute p a)) (attributes_in p)) (sym (sets layout)) (sent-after r t g);
+        sent = λ layout. subst (λ (x : Vertices). Each (λ (a : AttributeDesc). x.attribute a.location ≡ Some (sent_attribute p a)) (attributes_in p)) (sym (sets layout)) (sent-after r t g);
         held = λ flat. ap (λ (b : Bool). take (cond b v.attribute_count p.vertex_attribute_count) (cond b v.attributes p.vertex_attributes)) flat;
         clean = λ flat. never (attributes_in p) (all-dirty flat (slots-low (attributes_in p) (ranged-each p r)));
       }
@@ -200,6 +200,6 @@ module _ (caps : PrivateCapabilities) (p : RenderPipeline) (v : VertexState) whe
       slots-low (a ∷ l) h = (h.0.1, slots-low l h.1)
 
       never : (l : List AttributeDesc) → Each (λ (a : AttributeDesc). test_bit v'.dirty_vbuf_mask a.buffer_index ≡ true) l
-          → Each (λ (a : AttributeDesc). test_bit v'.dirty_vbuf_mask a.buffer_index ≡ false → test_bit v'.bound a.buffer_index ≡ true → g'.attribute a.location ≡ some (attribute_buffer v' (instance_at v' a.buffer_index) a)) l
+          → Each (λ (a : AttributeDesc). test_bit v'.dirty_vbuf_mask a.buffer_index ≡ false → test_bit v'.bound a.buffer_index ≡ true → g'.attribute a.location ≡ Some (attribute_buffer v' (instance_at v' a.buffer_index) a)) l
       never [] h = tt
       never (a ∷ l) h = ((λ e b. true-false (sym h.0 ∙ e)), never l h.1)

@@ -3,7 +3,7 @@ use Prim.Native.Nat.{ℕ, ◌+◌, ◌<◌}
 use mathlib.Core.Path.{◌≡◌, refl, sym, ap, ap₂, ◌∙◌, subst}
 use mathlib.Core.Bool.{Bool, true, false, cond, not, ◌&&◌, ◌||◌}
 use mathlib.Core.List.{List, [], ◌∷◌}
-use mathlib.Core.Option.{Option, none, some}
+use Rattle.std.specs.Prelude.{Option, None, Some}
 use native.Mathlib.Omega.{arith}
 use lib.Dec.{eqb, leb}
 use lib.Bits.{bit_and}
@@ -15,7 +15,6 @@ use Rattle.mask.specs.By.{mask_by, by-at}
 use Rattle.records.specs.Check.{among, bad_attribute}
 use Rattle.records.specs.declared.command.AttributeDesc.{AttributeDesc}
 use Rattle.records.specs.declared.command.BufferBinding.{BufferBinding}
-use Rattle.records.specs.declared.command.OptionU32.TheVariants.{Some}
 use Rattle.records.specs.declared.command.VertexBufferDesc.{VertexBufferDesc}
 use Rattle.records.specs.declared.pipeline.PrivateCapabilities.{PrivateCapabilities}
 use Rattle.records.specs.declared.pipeline.RenderPipeline.{RenderPipeline}
@@ -36,26 +35,26 @@ abbrev pub buffer_act : VertexState → ℕ → ℕ → Vertices → Vertices
 buffer_act v w i x = put_buffer i (slot_buffer v w i) x
 
 abbrev pub attribute_act : VertexState → ℕ → AttributeDesc → Vertices → Vertices
-attribute_act v w a x = put_attribute a.location (some (attribute_buffer v w a)) x
+attribute_act v w a x = put_attribute a.location (Some (attribute_buffer v w a)) x
 
 -- ---- a slot that has a description
-pub desc-some : (v : VertexState) (i : ℕ) (o : Option VertexBufferDesc) → desc_at v i ≡ o → has o ≡ true → (test_bit v.described i ≡ true) × (o ≡ some (slot_desc v i))
+pub desc-some : (v : VertexState) (i : ℕ) (o : Option VertexBufferDesc) → desc_at v i ≡ o → has o ≡ true → (test_bit v.described i ≡ true) × (o ≡ Some (slot_desc v i))
 desc-some v i o e h = go (test_bit v.described i) o e h
   where
-    go : (t : Bool) (o : Option VertexBufferDesc) → cond t (some (slot_desc v i)) none ≡ o → has o ≡ true → (t ≡ true) × (o ≡ some (slot_desc v i))
+    go : (t : Bool) (o : Option VertexBufferDesc) → cond t (Some (slot_desc v i)) None ≡ o → has o ≡ true → (t ≡ true) × (o ≡ Some (slot_desc v i))
     go true o e h = (refl, sym e)
     go false o e h = false-true (ap has e ∙ h)
 
-pub binding-some : (v : VertexState) (i : ℕ) (o : Option BufferBinding) → binding_at v i ≡ o → has o ≡ true → (test_bit v.bound i ≡ true) × (o ≡ some (record { raw = (slot_at v i).raw; offset = (slot_at v i).offset }))
+pub binding-some : (v : VertexState) (i : ℕ) (o : Option BufferBinding) → binding_at v i ≡ o → has o ≡ true → (test_bit v.bound i ≡ true) × (o ≡ Some (record { raw = (slot_at v i).raw; offset = (slot_at v i).offset }))
 binding-some v i o e h = go (test_bit v.bound i) o e h
   where
-    go : (t : Bool) (o : Option BufferBinding) → cond t (some (record { raw = (slot_at v i).raw; offset = (slot_at v i).offset })) none ≡ o → has o ≡ true
-        → (t ≡ true) × (o ≡ some (record { raw = (slot_at v i).raw; offset = (slot_at v i).offset }))
+    go : (t : Bool) (o : Option BufferBinding) → cond t (Some (record { raw = (slot_at v i).raw; offset = (slot_at v i).offset })) None ≡ o → has o ≡ true
+        → (t ≡ true) × (o ≡ Some (record { raw = (slot_at v i).raw; offset = (slot_at v i).offset }))
     go true o e h = (refl, sym e)
     go false o e h = false-true (ap has e ∙ h)
 
 -- a described slot whose description does not step by instance
-steps-not : (v : VertexState) (i : ℕ) (o : Option VertexBufferDesc) → o ≡ some (slot_desc v i) → steps_by_instance o ≡ false → test_bit v.by_instance i ≡ false
+steps-not : (v : VertexState) (i : ℕ) (o : Option VertexBufferDesc) → o ≡ Some (slot_desc v i) → steps_by_instance o ≡ false → test_bit v.by_instance i ≡ false
 steps-not v i o e h = go (test_bit v.by_instance i) (sym (ap steps_by_instance e) ∙ h)
   where
     go : (t : Bool) → is_instance (step_of t) ≡ false → t ≡ false
@@ -134,11 +133,11 @@ members l = part l l (λ x e. e)
 -- the slots of the attributes that a mask takes: those of the mask that an attribute has
 among-sent : (m i : ℕ) (l : List AttributeDesc) → among i (slots_of (sent_of m l)) ≡ test_bit m i && among i (slots_of l)
 unfolding sent_of among
-among-sent m i [] = none (test_bit m i)
+among-sent m i [] = None (test_bit m i)
   where
-    none : (t : Bool) → false ≡ t && false
-    none true = refl
-    none false = refl
+    None : (t : Bool) → false ≡ t && false
+    None true = refl
+    None false = refl
 among-sent m i (a ∷ l) = go (test_bit m a.buffer_index) (eqb i a.buffer_index) refl refl (among-sent m i l)
   where
     same : eqb i a.buffer_index ≡ true → test_bit m i ≡ test_bit m a.buffer_index
@@ -167,35 +166,35 @@ module _ (caps : PrivateCapabilities) (v : VertexState) (g : Vertices) (buffer :
       at_place 16 (λ i. cond (test_bit (cleared caps v w) i) w (instance_at v i)) i 0 l
       ∙ ap (λ (t : Bool). cond (test_bit (cond t (rebound v w) (mask_by 16 (λ i. among i (slots_of (sent v w))))) i) w (instance_at v i)) layout
 
-  sets : (x : Vertices) (k i : ℕ) → (buffer_act v w k x).buffer i ≡ cond (eqb i k) (some (slot_buffer v w i)) (x.buffer i)
+  sets : (x : Vertices) (k i : ℕ) → (buffer_act v w k x).buffer i ≡ cond (eqb i k) (Some (slot_buffer v w i)) (x.buffer i)
   sets x k i = go (eqb i k) refl
     where
-      go : (t : Bool) → eqb i k ≡ t → cond t (some (slot_buffer v w k)) (x.buffer i) ≡ cond t (some (slot_buffer v w i)) (x.buffer i)
-      go true e = ap (λ (j : ℕ). some (slot_buffer v w j)) (sym (eqb-true i k e))
+      go : (t : Bool) → eqb i k ≡ t → cond t (Some (slot_buffer v w k)) (x.buffer i) ≡ cond t (Some (slot_buffer v w i)) (x.buffer i)
+      go true e = ap (λ (j : ℕ). Some (slot_buffer v w j)) (sym (eqb-true i k e))
       go false e = refl
 
   -- every described, bound slot holds what the state says at its own instance
-  pub slot-after : (i : ℕ) → i < 16 → has (buffer i) ≡ true → test_bit v.described i ≡ true → test_bit v.bound i ≡ true → (folded (buffer_act v w) (places (rebound v w)) g).buffer i ≡ some (slot_buffer v (instance_at v' i) i)
+  pub slot-after : (i : ℕ) → i < 16 → has (buffer i) ≡ true → test_bit v.described i ≡ true → test_bit v.bound i ≡ true → (folded (buffer_act v w) (places (rebound v w)) g).buffer i ≡ Some (slot_buffer v (instance_at v' i) i)
   slot-after i l x d b =
-      swept (buffer_act v w) (λ (x : Vertices). x.buffer) (λ j. some (slot_buffer v w j)) sets (places (rebound v w)) g i
-      ∙ ap (λ (t : Bool). cond t (some (slot_buffer v w i)) (g.buffer i)) (among-places (rebound v w) i (in32 i l))
+      swept (buffer_act v w) (λ (x : Vertices). x.buffer) (λ j. Some (slot_buffer v w j)) sets (places (rebound v w)) g i
+      ∙ ap (λ (t : Bool). cond t (Some (slot_buffer v w i)) (g.buffer i)) (among-places (rebound v w) i (in32 i l))
       ∙ go (test_bit (rebound v w) i) refl
-      ∙ ap (λ (x : ℕ). some (slot_buffer v x i)) (sym (instance-after i l))
+      ∙ ap (λ (x : ℕ). Some (slot_buffer v x i)) (sym (instance-after i l))
     where
       in32 : (i : ℕ) → i < 16 → i < 32
       in32 i l = omega arith
 
-      go : (t : Bool) → test_bit (rebound v w) i ≡ t → cond t (some (slot_buffer v w i)) (g.buffer i) ≡ some (slot_buffer v (cond t w (instance_at v i)) i)
+      go : (t : Bool) → test_bit (rebound v w) i ≡ t → cond t (Some (slot_buffer v w i)) (g.buffer i) ≡ Some (slot_buffer v (cond t w (instance_at v i)) i)
       go true q = refl
       go false q = S.clean layout i l x (quiet-dirty v w i (sym (rebound-at v w i d b) ∙ q)) d b
 
   -- and one that the pipeline describes what the state says at the draw's
   pub slot_read : (p : RenderPipeline) → Fetched caps v g p → (i : ℕ) → i < 16 → has (pipe_desc p i) ≡ true → has (buffer i) ≡ true → test_bit v.described i ≡ true → test_bit v.bound i ≡ true
-      → (folded (buffer_act v w) (places (rebound v w)) g).buffer i ≡ some (slot_buffer v w i)
+      → (folded (buffer_act v w) (places (rebound v w)) g).buffer i ≡ Some (slot_buffer v w i)
   slot_read p F i l h x d b =
       slot-after i l x d b
-      ∙ ap (λ (x : ℕ). some (slot_buffer v x i)) (instance-after i l)
-      ∙ ap (λ (o : ℕ). some (record { binding = record { raw = (slot_at v i).raw; offset = (slot_at v i).offset + o }; desc = slot_desc v i })) (go (test_bit (rebound v w) i) refl)
+      ∙ ap (λ (x : ℕ). Some (slot_buffer v x i)) (instance-after i l)
+      ∙ ap (λ (o : ℕ). Some (record { binding = record { raw = (slot_at v i).raw; offset = (slot_at v i).offset + o }; desc = slot_desc v i })) (go (test_bit (rebound v w) i) refl)
     where
       go : (t : Bool) → test_bit (rebound v w) i ≡ t → slot_offset v (cond t w (instance_at v i)) i ≡ slot_offset v w i
       go true q = refl
@@ -208,7 +207,7 @@ module _ (caps : PrivateCapabilities) (v : VertexState) (g : Vertices) (buffer :
 -- an attribute as it is set, that far on
 abbrev at_offset : VertexState → AttributeDesc → ℕ → Option Attribute
 at_offset v a o =
-    some
+    Some
     (record {
       buffer = Some (slot_at v a.buffer_index).raw;
       desc = slot_desc v a.buffer_index;
@@ -223,42 +222,42 @@ at_offset v a o =
 
 module _ (caps : PrivateCapabilities) (v : VertexState) (g : Vertices) (p : RenderPipeline) (F : Fetched caps v g p) where
   module _ (flat : caps.vertex_buffer_layout ≡ false) (w : ℕ) where
-    here : (a : AttributeDesc) (x : Vertices) → (attribute_act v w a x).attribute a.location ≡ some (attribute_buffer v w a)
-    here a x = upd_same x.attribute a.location (some (attribute_buffer v w a))
+    here : (a : AttributeDesc) (x : Vertices) → (attribute_act v w a x).attribute a.location ≡ Some (attribute_buffer v w a)
+    here a x = upd_same x.attribute a.location (Some (attribute_buffer v w a))
 
     other : (a : AttributeDesc) (x : Vertices) (i : ℕ) → (i ≡ a.location → ⊥) → (attribute_act v w a x).attribute i ≡ x.attribute i
-    other a x i ne = upd_other x.attribute a.location i (some (attribute_buffer v w a)) ne
+    other a x i ne = upd_other x.attribute a.location i (Some (attribute_buffer v w a)) ne
 
     -- one attribute of the pipeline, after the sweep
     one : (a : AttributeDesc) (x : Vertices) → Ranged a → has (pipe_desc p a.buffer_index) ≡ true
-        → (test_bit v.dirty_vbuf_mask a.buffer_index ≡ false → test_bit v.bound a.buffer_index ≡ true → g.attribute a.location ≡ some (attribute_buffer v (instance_at v a.buffer_index) a))
-        → x.attribute a.location ≡ cond (test_bit (rebound v w) a.buffer_index) (some (attribute_buffer v w a)) (g.attribute a.location)
-        → test_bit v.bound a.buffer_index ≡ true → x.attribute a.location ≡ some (attribute_buffer v w a)
+        → (test_bit v.dirty_vbuf_mask a.buffer_index ≡ false → test_bit v.bound a.buffer_index ≡ true → g.attribute a.location ≡ Some (attribute_buffer v (instance_at v a.buffer_index) a))
+        → x.attribute a.location ≡ cond (test_bit (rebound v w) a.buffer_index) (Some (attribute_buffer v w a)) (g.attribute a.location)
+        → test_bit v.bound a.buffer_index ≡ true → x.attribute a.location ≡ Some (attribute_buffer v w a)
     one a x r h clean e b =
         e
-        ∙ ap (λ (t : Bool). cond t (some (attribute_buffer v w a)) (g.attribute a.location))
+        ∙ ap (λ (t : Bool). cond t (Some (attribute_buffer v w a)) (g.attribute a.location))
         (rebound-at v w a.buffer_index (desc-some v a.buffer_index (pipe_desc p a.buffer_index) (F.kept a.buffer_index r.1 h) h).0 b)
         ∙ go (test_bit (woken v w) a.buffer_index) refl
       where
-        go : (t : Bool) → test_bit (woken v w) a.buffer_index ≡ t → cond t (some (attribute_buffer v w a)) (g.attribute a.location) ≡ some (attribute_buffer v w a)
+        go : (t : Bool) → test_bit (woken v w) a.buffer_index ≡ t → cond t (Some (attribute_buffer v w a)) (g.attribute a.location) ≡ Some (attribute_buffer v w a)
         go true q = refl
         go false q =
             clean (quiet-dirty v w a.buffer_index q) b
             ∙ ap (at_offset v a) (settled v w a.buffer_index r.1 q (no_step caps v g p F a.buffer_index r.1 h))
 
-    pub attributes-after : Each (λ (a : AttributeDesc). test_bit v.bound a.buffer_index ≡ true → (folded (attribute_act v w) (sent v w) g).attribute a.location ≡ some (attribute_buffer v w a)) (attributes_in p)
+    pub attributes-after : Each (λ (a : AttributeDesc). test_bit v.bound a.buffer_index ≡ true → (folded (attribute_act v w) (sent v w) g).attribute a.location ≡ Some (attribute_buffer v w a)) (attributes_in p)
     attributes-after = go (attributes_in p) (ranged-each p F.ranged) (described-each p F.described) (F.clean flat) swept-each
       where
-        swept-each : Each (λ (a : AttributeDesc). (folded (attribute_act v w) (sent v w) g).attribute a.location ≡ cond (test_bit (rebound v w) a.buffer_index) (some (attribute_buffer v w a)) (g.attribute a.location)) (attributes_in p)
+        swept-each : Each (λ (a : AttributeDesc). (folded (attribute_act v w) (sent v w) g).attribute a.location ≡ cond (test_bit (rebound v w) a.buffer_index) (Some (attribute_buffer v w a)) (g.attribute a.location)) (attributes_in p)
         swept-each =
-            subst (λ (l : List AttributeDesc). Each (λ (a : AttributeDesc). (folded (attribute_act v w) (sent_of (rebound v w) l) g).attribute a.location ≡ cond (test_bit (rebound v w) a.buffer_index) (some (attribute_buffer v w a)) (g.attribute a.location)) (attributes_in p))
+            subst (λ (l : List AttributeDesc). Each (λ (a : AttributeDesc). (folded (attribute_act v w) (sent_of (rebound v w) l) g).attribute a.location ≡ cond (test_bit (rebound v w) a.buffer_index) (Some (attribute_buffer v w a)) (g.attribute a.location)) (attributes_in p))
             (sym (F.held flat))
-            (sifted (attribute_act v w) (λ (x : Vertices). x.attribute) (λ (a : AttributeDesc). some (attribute_buffer v w a)) here other (rebound v w) (attributes_in p) F.apart g)
+            (sifted (attribute_act v w) (λ (x : Vertices). x.attribute) (λ (a : AttributeDesc). Some (attribute_buffer v w a)) here other (rebound v w) (attributes_in p) F.apart g)
 
         go : (l : List AttributeDesc) → Each Ranged l → Each (λ (a : AttributeDesc). has (pipe_desc p a.buffer_index) ≡ true) l
-            → Each (λ (a : AttributeDesc). test_bit v.dirty_vbuf_mask a.buffer_index ≡ false → test_bit v.bound a.buffer_index ≡ true → g.attribute a.location ≡ some (attribute_buffer v (instance_at v a.buffer_index) a)) l
-            → Each (λ (a : AttributeDesc). (folded (attribute_act v w) (sent v w) g).attribute a.location ≡ cond (test_bit (rebound v w) a.buffer_index) (some (attribute_buffer v w a)) (g.attribute a.location)) l
-            → Each (λ (a : AttributeDesc). test_bit v.bound a.buffer_index ≡ true → (folded (attribute_act v w) (sent v w) g).attribute a.location ≡ some (attribute_buffer v w a)) l
+            → Each (λ (a : AttributeDesc). test_bit v.dirty_vbuf_mask a.buffer_index ≡ false → test_bit v.bound a.buffer_index ≡ true → g.attribute a.location ≡ Some (attribute_buffer v (instance_at v a.buffer_index) a)) l
+            → Each (λ (a : AttributeDesc). (folded (attribute_act v w) (sent v w) g).attribute a.location ≡ cond (test_bit (rebound v w) a.buffer_index) (Some (attribute_buffer v w a)) (g.attribute a.location)) l
+            → Each (λ (a : AttributeDesc). test_bit v.bound a.buffer_index ≡ true → (folded (attribute_act v w) (sent v w) g).attribute a.location ≡ Some (attribute_buffer v w a)) l
         go [] r h c e = tt
         go (a ∷ l) r h c e = (one a (folded (attribute_act v w) (sent v w) g) r.0 h.0 c.0 e.0, go l r.1 h.1 c.1 e.1)
 
@@ -266,7 +265,7 @@ module _ (caps : PrivateCapabilities) (v : VertexState) (g : Vertices) (p : Rend
     abbrev v'' : VertexState
     v'' = prepared_state caps v w
 
-    pub attributes-own : Each (λ (a : AttributeDesc). test_bit v.bound a.buffer_index ≡ true → (folded (attribute_act v w) (sent v w) g).attribute a.location ≡ some (attribute_buffer v (instance_at v'' a.buffer_index) a)) (attributes_in p)
+    pub attributes-own : Each (λ (a : AttributeDesc). test_bit v.bound a.buffer_index ≡ true → (folded (attribute_act v w) (sent v w) g).attribute a.location ≡ Some (attribute_buffer v (instance_at v'' a.buffer_index) a)) (attributes_in p)
     attributes-own = go (attributes_in p) (ranged-each p F.ranged) (described-each p F.described) (members (attributes_in p)) attributes-after
       where
         remembers : (i : ℕ) → i < 16 → among i (slots_of (attributes_in p)) ≡ true → instance_at v'' i ≡ cond (test_bit (rebound v w) i) w (instance_at v i)
@@ -295,7 +294,7 @@ module _ (caps : PrivateCapabilities) (v : VertexState) (g : Vertices) (p : Rend
             go false q = sym (settled v w i r.1 (sym (rebound-at v w i d b) ∙ q) (no_step caps v g p F i r.1 h))
 
         go : (l : List AttributeDesc) → Each Ranged l → Each (λ (a : AttributeDesc). has (pipe_desc p a.buffer_index) ≡ true) l → Each (λ (a : AttributeDesc). among a.buffer_index (slots_of (attributes_in p)) ≡ true) l
-            → Each (λ (a : AttributeDesc). test_bit v.bound a.buffer_index ≡ true → (folded (attribute_act v w) (sent v w) g).attribute a.location ≡ some (attribute_buffer v w a)) l
-            → Each (λ (a : AttributeDesc). test_bit v.bound a.buffer_index ≡ true → (folded (attribute_act v w) (sent v w) g).attribute a.location ≡ some (attribute_buffer v (instance_at v'' a.buffer_index) a)) l
+            → Each (λ (a : AttributeDesc). test_bit v.bound a.buffer_index ≡ true → (folded (attribute_act v w) (sent v w) g).attribute a.location ≡ Some (attribute_buffer v w a)) l
+            → Each (λ (a : AttributeDesc). test_bit v.bound a.buffer_index ≡ true → (folded (attribute_act v w) (sent v w) g).attribute a.location ≡ Some (attribute_buffer v (instance_at v'' a.buffer_index) a)) l
         go [] r h m e = tt
         go (a ∷ l) r h m e = ((λ b. e.0 b ∙ ap (at_offset v a) (own a r.0 h.0 m.0 b)), go l r.1 h.1 m.1 e.1)

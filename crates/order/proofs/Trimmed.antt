@@ -3,7 +3,7 @@ use Prim.Native.Nat.{ℕ, zero, suc, ◌+◌, ◌*◌}
 use mathlib.Core.Path.{◌≡◌, refl, sym, ap, ap₂, ◌∙◌}
 use mathlib.Core.Bool.{Bool, true, false, cond}
 use mathlib.Core.List.{List, [], ◌∷◌, ◌++◌, map}
-use mathlib.Core.Option.{Option, none, some}
+use Rattle.std.specs.Prelude.{Option, None, Some}
 use lib.Dec.{ltb}
 use lib.ListN.{take, get_or}
 use lib.Seq.{get_or-take}
@@ -14,7 +14,6 @@ use Rattle.records.specs.declared.command.AttributeDesc.{AttributeDesc}
 use Rattle.records.specs.declared.command.Command.{Command}
 use Rattle.records.specs.declared.command.Command.TheVariants.{Draw, DrawIndexed, DrawIndirect, DrawIndexedIndirect}
 use Rattle.records.specs.declared.command.VertexBufferDesc.{VertexBufferDesc}
-use Rattle.records.specs.declared.pipeline.OptionVertexBufferDesc.TheVariants as layout
 use Rattle.records.specs.declared.pipeline.PrivateCapabilities.{PrivateCapabilities}
 use Rattle.records.specs.declared.pipeline.RenderPipeline.{RenderPipeline}
 use Rattle.records.specs.declared.pipeline.VertexBufferLayout.{VertexBufferLayout}
@@ -39,25 +38,25 @@ describes-trim : (p : RenderPipeline) (i : ℕ) → describes (trimmed p) i ≡ 
 describes-trim p i = go (ltb i p.vertex_buffer_count) refl
   where
     go : (t : Bool) → ltb i p.vertex_buffer_count ≡ t
-        → cond t (given (get_or (take p.vertex_buffer_count p.vertex_buffers) i (record { desc = layout.None })).desc) none
-        ≡ cond t (given (get_or p.vertex_buffers i (record { desc = layout.None })).desc) none
+        → cond t (given (get_or (take p.vertex_buffer_count p.vertex_buffers) i (record { desc = None })).desc) None
+        ≡ cond t (given (get_or p.vertex_buffers i (record { desc = None })).desc) None
     go true e =
         ap (λ (x : VertexBufferLayout). given x.desc)
-        (get_or-take p.vertex_buffer_count p.vertex_buffers i (record { desc = layout.None }) (ltb-true i p.vertex_buffer_count e))
+        (get_or-take p.vertex_buffer_count p.vertex_buffers i (record { desc = None }) (ltb-true i p.vertex_buffer_count e))
     go false e = refl
 
 module _ (g : Page) (p : RenderPipeline) where
   abbrev here : Book
-  here = opened (with_pipeline g (some p))
+  here = opened (with_pipeline g (Some p))
 
   abbrev there : Book
-  there = opened (with_pipeline g (some (trimmed p)))
+  there = opened (with_pipeline g (Some (trimmed p)))
 
   fetch-trim : (w : ℕ) (a : AttributeDesc) → named_fetch there w a ≡ named_fetch here w a
   fetch-trim w a =
       ap
       (λ (d : Option VertexBufferDesc).
-      some (record { location = a.location; format = a.format_desc; slot = a.buffer_index; source = named_source w a.offset d (g.buffer a.buffer_index) }))
+      Some (record { location = a.location; format = a.format_desc; slot = a.buffer_index; source = named_source w a.offset d (g.buffer a.buffer_index) }))
       (describes-trim p a.buffer_index)
 
   fetches-trim : (w : ℕ) → map (named_fetch there w) (attributes_in (trimmed p)) ≡ map (named_fetch here w) (attributes_in p)
@@ -70,30 +69,30 @@ module _ (g : Page) (p : RenderPipeline) where
       λ j.
       record {
         command = c;
-        program = some p.inner.program;
+        program = Some p.inner.program;
         fetches = fetches-trim w j;
         buffers = g.bound.buffers;
         textures = g.bound.textures;
         images = g.bound.images;
-        samplers = tabulate 16 (λ u. named_sampler g.bound.samplers (number_by (some p) u));
-        index = cond indexed g.index none;
+        samplers = tabulate 16 (λ u. named_sampler g.bound.samplers (number_by (Some p) u));
+        index = cond indexed g.index None;
         viewport = g.viewport;
         scissor = g.scissor;
         blend = g.blend;
-        primitive = some (primitive_state p.primitive);
+        primitive = Some (primitive_state p.primitive);
         bias = p.depth_bias;
         alpha = p.alpha_to_coverage_enabled;
         targets = take-take p.color_target_count p.color_targets j;
         clip = λ i. ltb i p.inner.clip_distance_count;
-        has_depth = some (has_depth p.depth);
-        has_stencil = some (has_stencil p.stencil);
-        depth = depth_named (some p);
-        stencil = stencil_named g.reference (some p);
+        has_depth = Some (has_depth p.depth);
+        has_stencil = Some (has_stencil p.stencil);
+        depth = depth_named (Some p);
+        stencil = stencil_named g.reference (Some p);
       }
 
   -- as many draws of an indirect call
   all-trim : (w : ℕ) (indexed : Bool) (n : ℕ) (c : ℕ → Command)
-      → named (tabulate n (λ i. record { pipeline = some (trimmed p); view = names there w indexed (c i) })) ≡ named (tabulate n (λ i. record { pipeline = some p; view = names here w indexed (c i) }))
+      → named (tabulate n (λ i. record { pipeline = Some (trimmed p); view = names there w indexed (c i) })) ≡ named (tabulate n (λ i. record { pipeline = Some p; view = names here w indexed (c i) }))
   unfolding tabulate
   all-trim w indexed zero c = refl
   all-trim w indexed (suc n) c = ap₂ (λ (v : View) (l : List View). v ∷ l) (names-trim w indexed (c 0)) (all-trim w indexed n (λ i. c (suc i)))
@@ -125,20 +124,20 @@ module _ (g : Page) (p : RenderPipeline) where
   enter-trim caps (set_stencil_reference v) = refl
   enter-trim caps (set_blend_constants x) = refl
   enter-trim caps (draw vertex vertices instance instances) =
-      ap (λ (v : View). v ∷ []) (names-trim (working_of caps instance) false (Draw (topology_by (some p)) vertex vertices instance instances (location_by (some p))))
+      ap (λ (v : View). v ∷ []) (names-trim (working_of caps instance) false (Draw (topology_by (Some p)) vertex vertices instance instances (location_by (Some p))))
   enter-trim caps (draw_indexed fst count base instance instances) =
       ap (λ (v : View). v ∷ [])
       (names-trim (working_of caps instance) true
-      (DrawIndexed (topology_by (some p)) (type_of g.format) count (g.offset + size_of g.format * fst) base instance instances (location_by (some p))))
-  enter-trim caps (draw_indirect raw offset n) = all-trim 0 false n (λ i. DrawIndirect (topology_by (some p)) raw (offset + i * 16) (location_by (some p)))
-  enter-trim caps (draw_indexed_indirect raw offset n) = all-trim 0 true n (λ i. DrawIndexedIndirect (topology_by (some p)) (type_of g.format) raw (offset + i * 20) (location_by (some p)))
+      (DrawIndexed (topology_by (Some p)) (type_of g.format) count (g.offset + size_of g.format * fst) base instance instances (location_by (Some p))))
+  enter-trim caps (draw_indirect raw offset n) = all-trim 0 false n (λ i. DrawIndirect (topology_by (Some p)) raw (offset + i * 16) (location_by (Some p)))
+  enter-trim caps (draw_indexed_indirect raw offset n) = all-trim 0 true n (λ i. DrawIndexedIndirect (topology_by (Some p)) (type_of g.format) raw (offset + i * 20) (location_by (Some p)))
   enter-trim caps (dispatch_workgroups x y z) = refl
   enter-trim caps (dispatch_workgroups_indirect raw offset) = refl
 
 call-trim : (caps : PrivateCapabilities) (g : Page) (o : Option RenderPipeline) (c : Call)
     → named (enter caps (opened (with_pipeline g (trimmed_if o))) c).draws ≡ named (enter caps (opened (with_pipeline g o)) c).draws
-call-trim caps g none c = refl
-call-trim caps g (some p) c = enter-trim g p caps c
+call-trim caps g None c = refl
+call-trim caps g (Some p) c = enter-trim g p caps c
 
 named-append : (xs ys : List Entered) → named (xs ++ ys) ≡ named xs ++ named ys
 named-append [] ys = refl

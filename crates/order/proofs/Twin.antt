@@ -3,7 +3,7 @@ use Prim.Native.Nat.{ℕ, ◌^◌, ◌<◌, ◌≤◌}
 use mathlib.Core.Path.{◌≡◌, refl, sym, ap, ◌∙◌, subst}
 use mathlib.Core.Bool.{Bool, true, false, cond, not, ◌&&◌, ◌||◌}
 use mathlib.Core.List.{List, [], ◌∷◌}
-use mathlib.Core.Option.{Option, none, some}
+use Rattle.std.specs.Prelude.{Option, None, Some}
 use native.Mathlib.Nat.{lt_of_le_of_lt, le_trans}
 use native.Mathlib.Omega.{arith}
 use lib.Dec.{eqb, ltb}
@@ -51,12 +51,12 @@ pub record Same (caps : PrivateCapabilities) (o : Option RenderPipeline) (v : Ve
   -- an instance slot of the pipeline that is not dirty has the one number
   pub number : (i : ℕ) → i < 16 → Shows caps v i → test_bit v.instance_vbuf_mask i ≡ true → test_bit v.dirty_vbuf_mask i ≡ false → instance_at v i ≡ n
   pub full : caps.fully_featured_instancing ≡ true → Zeros v n
-  pub unpiped : caps.vertex_buffer_layout ≡ true → o ≡ none → Zeros v n
-  pub piped : caps.vertex_buffer_layout ≡ true → (q : RenderPipeline) → o ≡ some q → (i : ℕ) → i < 16 → has (pipe_desc q i) ≡ true → test_bit v.by_instance i ≡ true
+  pub unpiped : caps.vertex_buffer_layout ≡ true → o ≡ None → Zeros v n
+  pub piped : caps.vertex_buffer_layout ≡ true → (q : RenderPipeline) → o ≡ Some q → (i : ℕ) → i < 16 → has (pipe_desc q i) ≡ true → test_bit v.by_instance i ≡ true
       → test_bit v.instance_vbuf_mask i ≡ true
 
 -- nothing is dirty, no slot has a number: at the start, and after a pass's end
-pub zeroed : (caps : PrivateCapabilities) (v : VertexState) → v.dirty_vbuf_mask ≡ 0 → v.instances ≡ replicate 16 0 → Same caps none v 0 0
+pub zeroed : (caps : PrivateCapabilities) (v : VertexState) → v.dirty_vbuf_mask ≡ 0 → v.instances ≡ replicate 16 0 → Same caps None v 0 0
 zeroed caps v d e =
     record {
       low = subst (λ (k : ℕ). k < 2 ^ 16) (sym d) (omega arith);
@@ -171,7 +171,7 @@ module _ (caps : PrivateCapabilities) (o : Option RenderPipeline) (v : VertexSta
       go false = omega (arith, by-lt 16 (λ i. among i (slots_of (sent v w))))
 
   -- the slots after it; w is 0 where all numbers are
-  pub redrawn : (caps.fully_featured_instancing ≡ true → w ≡ 0) → (caps.vertex_buffer_layout ≡ true → o ≡ none → w ≡ 0)
+  pub redrawn : (caps.fully_featured_instancing ≡ true → w ≡ 0) → (caps.vertex_buffer_layout ≡ true → o ≡ None → w ≡ 0)
       → Same caps o (prepared_state caps v w) (without (woken v' w) (cleared caps v' w)) w
   redrawn zero-full zero-unpiped =
       record {
@@ -215,9 +215,9 @@ module _ (caps : PrivateCapabilities) (o : Option RenderPipeline) (v : VertexSta
 -- ---- a pipeline
 -- a description that stays: it steps as the state's does
 unchanged : (x y : Option VertexBufferDesc) → changes x y ≡ false → steps_by_instance x ≡ true → (has x ≡ true) × (steps_by_instance y ≡ true)
-unchanged none y e h = false-true h
-unchanged (some d) none e h = true-false e
-unchanged (some d) (some b) e h = (refl, go d.step b.step (and_left (same_step d.step b.step) (eqb d.stride b.stride) (not-false (same_desc d b) e)) h)
+unchanged None y e h = false-true h
+unchanged (Some d) None e h = true-false e
+unchanged (Some d) (Some b) e h = (refl, go d.step b.step (and_left (same_step d.step b.step) (eqb d.stride b.stride) (not-false (same_desc d b) e)) h)
   where
     go : (s t : VertexStepMode) → same_step s t ≡ true → is_instance s ≡ true → is_instance t ≡ true
     go Vertex t q i = false-true i
@@ -227,18 +227,18 @@ unchanged (some d) (some b) e h = (refl, go d.step b.step (and_left (same_step d
 described-step : (v : VertexState) (i : ℕ) → steps_by_instance (desc_at v i) ≡ true → test_bit v.by_instance i ≡ true
 described-step v i = go (test_bit v.described i) (test_bit v.by_instance i)
   where
-    go : (t b : Bool) → steps_by_instance (cond t (some (record { step = step_of b; stride = (slot_at v i).stride })) none) ≡ true → b ≡ true
+    go : (t b : Bool) → steps_by_instance (cond t (Some (record { step = step_of b; stride = (slot_at v i).stride })) None) ≡ true → b ≡ true
     go true true h = refl
     go true false h = false-true h
     go false b h = false-true h
 
 stepped-new : (b : Bool) (x : Option VertexBufferDesc) → has x ≡ true → step_or b x ≡ true → steps_by_instance x ≡ true
-stepped-new b none h e = false-true h
-stepped-new b (some d) h e = e
+stepped-new b None h e = false-true h
+stepped-new b (Some d) h e = e
 
 pub repiped : (caps : PrivateCapabilities) (o : Option RenderPipeline) (v : VertexState) (d n : ℕ) (p : RenderPipeline) → Same caps o v d n
-    → (caps.vertex_buffer_layout ≡ true → caps.fully_featured_instancing ≡ false → (q : RenderPipeline) → o ≡ some q → (i : ℕ) → i < 16 → known (describes p i) ≡ known (describes q i))
-    → Same caps (some p) (pipeline_vertex caps p v) (bit_or (dirty_before caps p (other d n v)) (changed_slots p v)) n
+    → (caps.vertex_buffer_layout ≡ true → caps.fully_featured_instancing ≡ false → (q : RenderPipeline) → o ≡ Some q → (i : ℕ) → i < 16 → known (describes p i) ≡ known (describes q i))
+    → Same caps (Some p) (pipeline_vertex caps p v) (bit_or (dirty_before caps p (other d n v)) (changed_slots p v)) n
 repiped caps o v d n p S E =
     record {
       low = or_lt 16 (dirty_before caps p v) (changed_slots p v) (before-low v.dirty_vbuf_mask S.low) (by-lt 16 _);
@@ -261,7 +261,7 @@ repiped caps o v d n p S E =
           ∙ stepped-new (test_bit v.by_instance i) (pipe_desc p i) k (sym (by-at 16 (λ i. step_or (test_bit v.by_instance i) (pipe_desc p i)) i low) ∙ b)) h;
     }
   where
-    some_same : (x y : RenderPipeline) → some x ≡ some y → x ≡ y
+    some_same : (x y : RenderPipeline) → Some x ≡ Some y → x ≡ y
     some_same x y e = cc
 
     attrs : ℕ
@@ -291,9 +291,9 @@ repiped caps o v d n p S E =
         quiet = sym (ap (λ (t : Bool). test_bit (cond t v.dirty_vbuf_mask attrs) i) layout) ∙ q
 
         by-pipeline : (x : Option RenderPipeline) → o ≡ x → (f : Bool) → caps.fully_featured_instancing ≡ f → instance_at v i ≡ n
-        by-pipeline none e f g = let z = S.unpiped layout e in z.1 i l ∙ sym z.0
-        by-pipeline (some q) e true g = let z = S.full g in z.1 i l ∙ sym z.0
-        by-pipeline (some q) e false g =
+        by-pipeline None e f g = let z = S.unpiped layout e in z.1 i l ∙ sym z.0
+        by-pipeline (Some q) e true g = let z = S.full g in z.1 i l ∙ sym z.0
+        by-pipeline (Some q) e false g =
             let k = sym (described-is q i) ∙ sym (E layout g q e i l) ∙ described-is p i ∙ h in
             S.number i l (λ flat. true-false (sym layout ∙ flat)) (S.piped layout q e i l k b) quiet
     at i l r h b q false flat =

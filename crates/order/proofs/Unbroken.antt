@@ -19,10 +19,9 @@ use Rattle.records.specs.Start.{start_state, start_texture_slot}
 use Rattle.records.specs.declared.check.Broken.{Broken}
 use Rattle.records.specs.declared.check.Rooms.{Rooms}
 use Rattle.records.specs.declared.pass.ColorPlace.{ColorPlace}
-use Rattle.records.specs.declared.pass.OptionView.{OptionView}
-use Rattle.records.specs.declared.pass.OptionView.TheVariants as view
-use Rattle.records.specs.declared.pass.OptionColorAttachment.{OptionColorAttachment}
-use Rattle.records.specs.declared.pass.OptionColorAttachment.TheVariants as place
+use Rattle.std.specs.Prelude.{Option, None, Some}
+use Rattle.records.specs.declared.command.TextureView.{TextureView}
+use Rattle.records.specs.declared.pass.ColorAttachment.{ColorAttachment}
 use Rattle.records.specs.declared.pass.RenderPassDescriptor.{RenderPassDescriptor}
 use Rattle.records.specs.declared.binding.BindGroupLayoutEntry.{BindGroupLayoutEntry}
 use Rattle.records.specs.declared.binding.RawBinding.{RawBinding}
@@ -270,15 +269,15 @@ record Resolved (n : ℕ) (l : List ResolveDesc) : Type 0 where
   few : length l ≤ n
   good : some? bad_resolve l ≡ false
 
-resolve-one : (caps : PrivateCapabilities) (i : ℕ) (o : OptionColorAttachment) → i < 8 → Resolved 1 (resolve_place caps i o)
+resolve-one : (caps : PrivateCapabilities) (i : ℕ) (o : Option ColorAttachment) → i < 8 → Resolved 1 (resolve_place caps i o)
 unfolding some?
-resolve-one caps i place.None h = record { few = omega arith; good = refl }
-resolve-one caps i (place.Some a) h = go a.resolve_target (resolves_in_place caps i a.ops a.resolve_target)
+resolve-one caps i None h = record { few = omega arith; good = refl }
+resolve-one caps i (Some a) h = go a.resolve_target (resolves_in_place caps i a.ops a.resolve_target)
   where
-    go : (v : OptionView) (b : Bool) → Resolved 1 (resolve_of b i v)
-    go view.None b = record { few = omega arith; good = refl }
-    go (view.Some v) true = record { few = omega arith; good = refl }
-    go (view.Some v) false = record { few = omega arith; good = ors (leb 8 i) false (lt-leb 8 i h) refl }
+    go : (v : Option TextureView) (b : Bool) → Resolved 1 (resolve_of b i v)
+    go None b = record { few = omega arith; good = refl }
+    go (Some v) true = record { few = omega arith; good = refl }
+    go (Some v) false = record { few = omega arith; good = ors (leb 8 i) false (lt-leb 8 i h) refl }
 
 some-append : {A : Type 0} (f : A → Bool) (xs ys : List A) → some? f xs ≡ false → some? f ys ≡ false → some? f (xs ++ ys) ≡ false
 unfolding some?

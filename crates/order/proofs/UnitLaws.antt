@@ -17,15 +17,14 @@ use Rattle.records.specs.Check.{some?}
 use Rattle.records.specs.declared.binding.BindGroupLayoutEntry.{BindGroupLayoutEntry}
 use Rattle.records.specs.declared.binding.RawBinding.{RawBinding}
 use Rattle.records.specs.declared.binding.RawBinding.TheVariants as content
-use Rattle.records.specs.declared.command.OptionU32.{OptionU32}
-use Rattle.records.specs.declared.command.OptionU32.TheVariants.{None, Some}
+use Rattle.std.specs.Prelude.{is_some, Option, None, Some}
 use Rattle.records.specs.declared.pipeline.PipelineInner.{PipelineInner}
 use Rattle.records.specs.declared.state.TextureSlotDesc.{TextureSlotDesc}
 use Rattle.records.specs.declared.state.BindState.{BindState}
 use Rattle.slots.specs.Places.{among-places}
 use Rattle.bindings.specs.Units.{unit_at, sampler_at, number_at, resolve, takes_one, dirty_units}
 use Rattle.bindings.specs.Group.{Entry, entry_state, group_state, is_sampler, names_sampler, textures_named, samplers_named, content_out_of_range, entry_out_of_range, offsets_after}
-use Rattle.pipeline.specs.Inner.{is_some, value_or, map_at, changed_units, inner_bind}
+use Rattle.pipeline.specs.Inner.{value_or, map_at, changed_units, inner_bind}
 use Rattle.machine.proofs.Lists.{true-false, or_left, or_right, set_at}
 use Rattle.machine.proofs.Sweep.{folded, swept}
 use Rattle.machine.specs.Machine.{Bindings, put_sampler}
@@ -57,11 +56,11 @@ number-after p b u l =
     let t = at_place 16 (λ u. record { tex_target = (unit_at b u).tex_target; sampler_index = value_or 0 (map_at p u) }) u start_texture_slot l in
     (λ j. cond (s j) (Some (t j).sampler_index) None) ∙ go (map_at p u)
   where
-    go : (o : OptionU32) → cond (is_some o) (Some (value_or 0 o)) None ≡ o
+    go : (o : Option ℕ) → cond (is_some o) (Some (value_or 0 o)) None ≡ o
     go None = refl
     go (Some k) = refl
 
-pub units-piped : (p : PipelineInner) (b : BindState) (g : Bindings) (held : ℕ → OptionU32) → Units b g.samplers held
+pub units-piped : (p : PipelineInner) (b : BindState) (g : Bindings) (held : ℕ → Option ℕ) → Units b g.samplers held
     → Units (inner_bind p b) (folded (sampler_act (inner_bind p b)) (places (changed_units p b)) g).samplers held
 unfolding changed_units
 units-piped p b g held U =
@@ -80,7 +79,7 @@ units-piped p b g held U =
     go u l true e =
         U.taken u l ∙ ap (resolve b) (sym (option-u32.equal (map_at p u) (number_at b u) e) ∙ sym (number-after p b u l)) ∙ still (number_at (inner_bind p b) u)
       where
-        still : (o : OptionU32) → resolve b o ≡ resolve (inner_bind p b) o
+        still : (o : Option ℕ) → resolve b o ≡ resolve (inner_bind p b) o
         still None = refl
         still (Some k) = refl
     go u l false e = refl
@@ -212,16 +211,16 @@ units-grouped xs os b g x e U g' kept =
       same = λ k l. R.samplers k (U.same k l);
       taken = λ u l.
           sampler-swept (group_state xs b) (dirty_units (group_state xs b) (textures_named xs) (samplers_named xs)) g' u l
-          ∙ ap₂ (λ (t : Bool) (o : OptionU32). cond t (resolve (group_state xs b) (number_at (group_state xs b) u)) o)
+          ∙ ap₂ (λ (t : Bool) (o : Option ℕ). cond t (resolve (group_state xs b) (number_at (group_state xs b) u)) o)
           (by-at 16 (λ u. test_bit (textures_named xs) u || takes_one (samplers_named xs) (number_at (group_state xs b) u)) u l)
-          (ap (λ (f : ℕ → OptionU32). f u) kept ∙ U.taken u l ∙ ap (resolve b) (sym (R.numbers u)))
+          (ap (λ (f : ℕ → Option ℕ). f u) kept ∙ U.taken u l ∙ ap (resolve b) (sym (R.numbers u)))
           ∙ go (test_bit (textures_named xs) u) (number_at (group_state xs b) u);
     }
   where
     R : Regrouped xs os b x
     R = regrouped xs os b x U.samplers_long U.units_long e
 
-    go : (t : Bool) (o : OptionU32) → cond (t || takes_one (samplers_named xs) o) (resolve (group_state xs b) o) (resolve b o) ≡ resolve (group_state xs b) o
+    go : (t : Bool) (o : Option ℕ) → cond (t || takes_one (samplers_named xs) o) (resolve (group_state xs b) o) (resolve b o) ≡ resolve (group_state xs b) o
     go true o = refl
     go false None = refl
     go false (Some k) = at (test_bit (samplers_named xs) k) refl

@@ -3,7 +3,7 @@ use Prim.Native.Nat.{ℕ, ◌+◌, ◌<◌}
 use mathlib.Core.Path.{◌≡◌, refl, sym, ap, ◌∙◌, subst}
 use mathlib.Core.Bool.{Bool, true, false, cond, ◌||◌}
 use mathlib.Core.List.{List, [], ◌∷◌, ◌++◌, map}
-use mathlib.Core.Option.{Option, none, some}
+use Rattle.std.specs.Prelude.{Option, None, Some}
 use native.Mathlib.Omega.{arith}
 use lib.Dec.{eqb}
 use lib.ListN.{length, length-set}
@@ -15,7 +15,6 @@ use Rattle.names.specs.Maps.{primitive_topology}
 use Rattle.records.specs.Start.{start_slot}
 use Rattle.records.specs.declared.command.AttributeDesc.{AttributeDesc}
 use Rattle.records.specs.declared.command.BufferBinding.{BufferBinding}
-use Rattle.records.specs.declared.command.OptionU32.TheVariants.{Some}
 use Rattle.records.specs.declared.pipeline.PrivateCapabilities.{PrivateCapabilities}
 use Rattle.records.specs.declared.pipeline.RenderPipeline.{RenderPipeline}
 use Rattle.records.specs.declared.state.Phase.{Phase}
@@ -71,16 +70,16 @@ module _ (v : VertexState) (i raw offset : ℕ) (low : i < 16) (long : length v.
       go false e = refl
 
   desc-is : (j : ℕ) → desc_at v' j ≡ desc_at v j
-  desc-is j = let e = stride-is j in λ k. cond (test_bit v.described j) (some (record { step = step_of (test_bit v.by_instance j); stride = e k })) none
+  desc-is j = let e = stride-is j in λ k. cond (test_bit v.described j) (Some (record { step = step_of (test_bit v.by_instance j); stride = e k })) None
 
-  binding-is : (j : ℕ) → binding_at v' j ≡ cond (eqb j i) (some (record { raw = raw; offset = offset })) (binding_at v j)
+  binding-is : (j : ℕ) → binding_at v' j ≡ cond (eqb j i) (Some (record { raw = raw; offset = offset })) (binding_at v j)
   binding-is j =
       let e = slot_is j in
       let t = test-set v.bound j i (in32 i low) in
-      (λ k. cond (t k) (some (record { raw = (e k).raw; offset = (e k).offset })) none) ∙ go (eqb j i) (test_bit v.bound j)
+      (λ k. cond (t k) (Some (record { raw = (e k).raw; offset = (e k).offset })) None) ∙ go (eqb j i) (test_bit v.bound j)
     where
-      go : (t z : Bool) → ◌≡◌ {A = Option BufferBinding} (cond (z || t) (some (record { raw = (cond t slot' (slot_at v j)).raw; offset = (cond t slot' (slot_at v j)).offset })) none)
-          (cond t (some (record { raw = raw; offset = offset })) (cond z (some (record { raw = (slot_at v j).raw; offset = (slot_at v j).offset })) none))
+      go : (t z : Bool) → ◌≡◌ {A = Option BufferBinding} (cond (z || t) (Some (record { raw = (cond t slot' (slot_at v j)).raw; offset = (cond t slot' (slot_at v j)).offset })) None)
+          (cond t (Some (record { raw = raw; offset = offset })) (cond z (Some (record { raw = (slot_at v j).raw; offset = (slot_at v j).offset })) None))
       go true true = refl
       go true false = refl
       go false true = refl
@@ -100,19 +99,19 @@ module _ (v : VertexState) (i raw offset : ℕ) (low : i < 16) (long : length v.
       or-false true = refl
       or-false false = refl
 
-  pub slots-bound : (caps : PrivateCapabilities) (g : Vertices) (buffer : ℕ → Option BufferBinding) → Slots caps v g buffer → Slots caps v' g (upd buffer i (some (record { raw = raw; offset = offset })))
+  pub slots-bound : (caps : PrivateCapabilities) (g : Vertices) (buffer : ℕ → Option BufferBinding) → Slots caps v g buffer → Slots caps v' g (upd buffer i (Some (record { raw = raw; offset = offset })))
   slots-bound caps g buffer S =
       record {
         bound = λ j l h. binding-is j ∙ now (eqb j i) (buffer j) (binding_at v j) (S.bound j l) h;
         clean = λ layout j l h e d b.
             let o = other j e in
             let x = slot_same j o.1 in
-            S.clean layout j l (subst (λ (t : Bool). has (cond t (some (record { raw = raw; offset = offset })) (buffer j)) ≡ true) o.1 h) o.0 d (sym (bound-same j o.1) ∙ b)
-            ∙ sym (λ k. some (record { binding = record { raw = (x k).raw; offset = (x k).offset + instance_offset (step_of (test_bit v.by_instance j)) (instance_at v j) (x k).stride }; desc = record { step = step_of (test_bit v.by_instance j); stride = (x k).stride } }));
+            S.clean layout j l (subst (λ (t : Bool). has (cond t (Some (record { raw = raw; offset = offset })) (buffer j)) ≡ true) o.1 h) o.0 d (sym (bound-same j o.1) ∙ b)
+            ∙ sym (λ k. Some (record { binding = record { raw = (x k).raw; offset = (x k).offset + instance_offset (step_of (test_bit v.by_instance j)) (instance_at v j) (x k).stride }; desc = record { step = step_of (test_bit v.by_instance j); stride = (x k).stride } }));
       }
     where
-      now : (t : Bool) (o x : Option BufferBinding) → (has o ≡ true → x ≡ o) → has (cond t (some (record { raw = raw; offset = offset })) o) ≡ true
-          → cond t (some (record { raw = raw; offset = offset })) x ≡ cond t (some (record { raw = raw; offset = offset })) o
+      now : (t : Bool) (o x : Option BufferBinding) → (has o ≡ true → x ≡ o) → has (cond t (Some (record { raw = raw; offset = offset })) o) ≡ true
+          → cond t (Some (record { raw = raw; offset = offset })) x ≡ cond t (Some (record { raw = raw; offset = offset })) o
       now true o x q h = refl
       now false o x q h = q h
 
@@ -130,8 +129,8 @@ module _ (v : VertexState) (i raw offset : ℕ) (low : i < 16) (long : length v.
       }
     where
       go : (l : List AttributeDesc)
-          → Each (λ (a : AttributeDesc). test_bit v.dirty_vbuf_mask a.buffer_index ≡ false → test_bit v.bound a.buffer_index ≡ true → g.attribute a.location ≡ some (attribute_buffer v (instance_at v a.buffer_index) a)) l
-          → Each (λ (a : AttributeDesc). test_bit v'.dirty_vbuf_mask a.buffer_index ≡ false → test_bit v'.bound a.buffer_index ≡ true → g.attribute a.location ≡ some (attribute_buffer v' (instance_at v a.buffer_index) a)) l
+          → Each (λ (a : AttributeDesc). test_bit v.dirty_vbuf_mask a.buffer_index ≡ false → test_bit v.bound a.buffer_index ≡ true → g.attribute a.location ≡ Some (attribute_buffer v (instance_at v a.buffer_index) a)) l
+          → Each (λ (a : AttributeDesc). test_bit v'.dirty_vbuf_mask a.buffer_index ≡ false → test_bit v'.bound a.buffer_index ≡ true → g.attribute a.location ≡ Some (attribute_buffer v' (instance_at v a.buffer_index) a)) l
       go [] h = tt
       go (a ∷ l) h = (
         (λ e b.
@@ -140,7 +139,7 @@ module _ (v : VertexState) (i raw offset : ℕ) (low : i < 16) (long : length v.
             h.0 o.0 (sym (bound-same a.buffer_index o.1) ∙ b)
             ∙ sym
             (λ k.
-            some
+            Some
             (record {
               buffer = Some (x k).raw;
               desc = record { step = step_of (test_bit v.by_instance a.buffer_index); stride = (x k).stride };
@@ -157,7 +156,7 @@ module _ (v : VertexState) (i raw offset : ℕ) (low : i < 16) (long : length v.
 
 -- ---- the commands of a pipeline's vertex part, on the machine
 set_act : RenderPipeline → AttributeDesc → Vertices → Vertices
-set_act p a x = put_attribute a.location (some (sent_attribute p a)) x
+set_act p a x = put_attribute a.location (Some (sent_attribute p a)) x
 
 vertex_played : PrivateCapabilities → RenderPipeline → VertexState → Vertices → Vertices
 vertex_played caps p v g = cond caps.vertex_buffer_layout (folded (set_act p) (attributes_in p) g) (folded unset_act (attributes_of v) g)
@@ -179,7 +178,7 @@ vertex-buffers caps p v g = go caps.vertex_buffer_layout
     go true = unfolded (set_act p) (λ (x : Vertices). x.buffer) (λ a x. refl) (attributes_in p) g
     go false = unfolded unset_act (λ (x : Vertices). x.buffer) (λ a x. refl) (attributes_of v) g
 
-vertex-sent : (caps : PrivateCapabilities) (p : RenderPipeline) (v : VertexState) (g : Vertices) → caps.vertex_buffer_layout ≡ true → vertex_played caps p v g ≡ folded (λ (a : AttributeDesc) (x : Vertices). put_attribute a.location (some (sent_attribute p a)) x) (attributes_in p) g
+vertex-sent : (caps : PrivateCapabilities) (p : RenderPipeline) (v : VertexState) (g : Vertices) → caps.vertex_buffer_layout ≡ true → vertex_played caps p v g ≡ folded (λ (a : AttributeDesc) (x : Vertices). put_attribute a.location (Some (sent_attribute p a)) x) (attributes_in p) g
 unfolding vertex_played set_act
 vertex-sent caps p v g e = ap (λ (t : Bool). cond t (folded (set_act p) (attributes_in p) g) (folded unset_act (attributes_of v) g)) e
 
@@ -247,7 +246,7 @@ module _ (caps : PrivateCapabilities) (s : State) (m : Machine) (b : Book) (T : 
       (with_vertex (pipeline_vertex caps p s.vertex)
       (with_draw (with_topology (primitive_topology p.topology) (with_location p.inner.first_instance_location s.draw))
       (with_fixed (pipeline_fixed p s.fixed) (with_bind (inner_bind p.inner s.bind) (with_immediates (inner_immediates p.inner s.immediates) s))))))
-      (play m (vertex_commands caps p s.vertex ++ (inner_commands p.inner s.bind ++ fixed_commands p s.fixed))) (with_pipeline (some p) (reference_of p.stencil) b)
+      (play m (vertex_commands caps p s.vertex ++ (inner_commands p.inner s.bind ++ fixed_commands p s.fixed))) (with_pipeline (Some p) (reference_of p.stencil) b)
   unfolding piped-machine
   by-render-pipeline p range inner absent twice n k l =
       subst
@@ -256,7 +255,7 @@ module _ (caps : PrivateCapabilities) (s : State) (m : Machine) (b : Book) (T : 
       (with_vertex (pipeline_vertex caps p s.vertex)
       (with_draw (with_topology (primitive_topology p.topology) (with_location p.inner.first_instance_location s.draw))
       (with_fixed (pipeline_fixed p s.fixed) (with_bind (inner_bind p.inner s.bind) (with_immediates (inner_immediates p.inner s.immediates) s))))))
-      x (with_pipeline (some p) (reference_of p.stencil) b))
+      x (with_pipeline (Some p) (reference_of p.stencil) b))
       (sym (play-pipeline caps p s m))
       (record {
         stage = T.stage;
@@ -281,12 +280,12 @@ module _ (caps : PrivateCapabilities) (s : State) (m : Machine) (b : Book) (T : 
           (with_draw (with_topology (primitive_topology p.topology) (with_location p.inner.first_instance_location s.draw))
           (with_fixed (pipeline_fixed p s.fixed) (with_bind (inner_bind p.inner s.bind) (with_immediates (inner_immediates p.inner s.immediates) s)))))
 
-      some_same : (x y : RenderPipeline) → some x ≡ some y → x ≡ y
+      some_same : (x y : RenderPipeline) → Some x ≡ Some y → x ≡ y
       some_same x y e = ap (from x) e
         where
           from : RenderPipeline → Option RenderPipeline → RenderPipeline
-          from d none = d
-          from d (some z) = z
+          from d None = d
+          from d (Some z) = z
 
       L : Lazy s.fixed (put_program p.inner.program m.gl.fixed)
       L = record { bias = T.lazy.bias; alpha = T.lazy.alpha; clip = T.lazy.clip; targets = T.lazy.targets; primitive = T.lazy.primitive }

@@ -3,8 +3,7 @@
 -- no run gets stuck: `never-broken`, `never-broken-of-run`, `own-refusal-of-run`, `phase-of-run` (proofs/Unbroken.antt, Stuck.antt);
 -- document 02, request 5: `rest-of-run` (proofs/Rest.antt), `as-rust`, `as-rust-of-run` (proofs/PassAsRust.antt).
 -- In demand 3's nothing of the recorder stands but its calls' contracts: `machine` says what a list does, `book` what the calls name. Definitions only.
-use Rattle.std.specs.Prelude.{◌≡◌, true, false, List, length, replicate}
-use Rattle.std.proofs.Math.Option.{none}
+use Rattle.std.specs.Prelude.{◌≡◌, true, false, List, length, replicate, None}
 use Rattle.records.specs.Check.{state_conditions}
 use Rattle.records.specs.Outcome.{number, none_hold, Smallest}
 use Rattle.records.specs.declared.check.Rooms.{Rooms}
@@ -108,7 +107,7 @@ AsRust =
     (caps : PrivateCapabilities) (rooms : Rooms) (s : State) (before calls : List Call)
     → carried caps rooms s begin_encoding ≡ true
     → let x = record_calls caps rooms (begun caps rooms s) before in
-    in_render x.state.progress.phase ≡ false → EvenWhere caps none (fed caps rooms x.state calls)
+    in_render x.state.progress.phase ≡ false → EvenWhere caps None (fed caps rooms x.state calls)
     → SameLists (record_calls caps rooms x calls) (rust_calls caps rooms x 0 calls) × (fed caps rooms x.state calls ≡ rust_fed caps rooms x.state 0 calls)
 
 -- of what the functions hand back, before and after
@@ -116,5 +115,5 @@ abbrev pub AsRustOfRun : Type 0
 AsRustOfRun =
     (caps : PrivateCapabilities) (s₀ s₁ s' : State) (r₀ r r₁ r' : Runs) (a : Answer) (before calls : List Call)
     → Did caps s₀ r₀ begin_encoding a r → a.outcome ≡ Done → Ran caps a.state r before s₁ r₁ → in_render s₁.progress.phase ≡ false
-    → (R : Ran caps s₁ r₁ calls s' r') → EvenWhere caps none (answers R)
+    → (R : Ran caps s₁ r₁ calls s' r') → EvenWhere caps None (answers R)
     → SameLists (recording_of s' r') (rust_calls caps (rooms_of r₁) (recording_of s₁ r₁) 0 calls) × (answers R ≡ rust_fed caps (rooms_of r₁) s₁ 0 calls)

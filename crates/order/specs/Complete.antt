@@ -1,14 +1,13 @@
 -- A view in which nothing that a draw needs is missing. Definitions only.
-use Rattle.std.specs.Prelude.{◌≡◌, true}
-use Rattle.std.proofs.Math.Option.{Option, none, some}
+use Rattle.std.specs.Prelude.{◌≡◌, true, Option, None, Some}
 use Rattle.machine.specs.View.{Fetch, View}
 use Rattle.book.specs.Book.{known}
 use Rattle.machine.specs.Each.{Each}
 
 -- a fetch with a source
 abbrev pub Sourced : Option Fetch → Type 0
-Sourced none = ⊥
-Sourced (some f) = known f.source ≡ true
+Sourced None = ⊥
+Sourced (Some f) = known f.source ≡ true
 
 pub record Complete (v : View) : Type 0 where
   pub program : known v.program ≡ true

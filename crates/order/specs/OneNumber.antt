@@ -1,6 +1,5 @@
 -- The Rust's rule for instance slots, one number for all of them, and the sessions on which document 02, request 5, says that the list is the Rust's. Definitions only.
-use Rattle.std.specs.Prelude.{ℕ, ◌<◌, ◌≡◌, Bool, true, false, cond, List, [], ◌∷◌, ltb, replicate}
-use Rattle.std.proofs.Math.Option.{Option, none, some}
+use Rattle.std.specs.Prelude.{ℕ, ◌<◌, ◌≡◌, Bool, true, false, cond, List, [], ◌∷◌, ltb, replicate, Option, None, Some}
 use Rattle.records.specs.declared.check.Rooms.{Rooms}
 use Rattle.records.specs.declared.pipeline.PrivateCapabilities.{PrivateCapabilities}
 use Rattle.records.specs.declared.pipeline.RenderPipeline.{RenderPipeline}
@@ -82,15 +81,15 @@ rust_fed caps rooms s n (c ∷ cs) =
 -- ---- where it is the same list
 -- the last pipeline of the pass
 abbrev pub last_pipeline : Option RenderPipeline → Turn → Option RenderPipeline
-last_pipeline o forgets = none
-last_pipeline o (pipes p) = some p
+last_pipeline o forgets = None
+last_pipeline o (pipes p) = Some p
 last_pipeline o (draws w made) = o
 last_pipeline o passes = o
 
 -- "each draw follows a pipeline of its own pass and all pipelines of a pass describe the same slots"
 abbrev pub EvenAt : Option RenderPipeline → Turn → Type 0
 EvenAt o forgets = Unit {0}
-EvenAt o (pipes p) = (q : RenderPipeline) → o ≡ some q → (i : ℕ) → i < 16 → known (describes p i) ≡ known (describes q i)
+EvenAt o (pipes p) = (q : RenderPipeline) → o ≡ Some q → (i : ℕ) → i < 16 → known (describes p i) ≡ known (describes q i)
 EvenAt o (draws w made) = made ≡ true → known o ≡ true
 EvenAt o passes = Unit {0}
 

@@ -7,25 +7,25 @@ use native.Mathlib.Omega.{arith}
 use lib.ListN.{length, length-append}
 use Rattle.mask.specs.Mask.{digit_of}
 use Rattle.records.specs.declared.command.Command.{Command}
-use Rattle.records.specs.declared.pass.OptionTimestampWrites.{OptionTimestampWrites}
-use Rattle.records.specs.declared.pass.OptionTimestampWrites.TheVariants as writes
+use Rattle.std.specs.Prelude.{Option, None, Some}
+use Rattle.records.specs.declared.pass.TimestampWrites.{TimestampWrites}
 use Rattle.records.specs.declared.pass.RenderPassDescriptor.{RenderPassDescriptor}
 use Rattle.records.specs.declared.pipeline.PrivateCapabilities.{PrivateCapabilities}
 use Rattle.pass.specs.Marks.{Lent, timestamp, begin_timestamp, push_label}
 use Rattle.pass.specs.Render.{begin_render_commands}
 use Rattle.pass.specs.Plan.{begin_query_meaning, opening_count, all_clears, draw_buffers, attached, settings, framing, begin_plan}
 
-stamp-same : (set : Lent) (t : OptionTimestampWrites) → begin_timestamp set t ≡ timestamp (begin_query_meaning set t)
-stamp-same set writes.None = refl
-stamp-same set (writes.Some t) = refl
+stamp-same : (set : Lent) (t : Option TimestampWrites) → begin_timestamp set t ≡ timestamp (begin_query_meaning set t)
+stamp-same set None = refl
+stamp-same set (Some t) = refl
 
 pub push-one : (b : Bool) (bytes : Lent) (at : ℕ) → length (push_label (record { present = b; bytes = bytes }) at) ≡ digit_of b
 push-one true bytes at = refl
 push-one false bytes at = refl
 
-pub one-unless : (b : Bool) (x : Command) → digit_of b ≡ length (cond (not b) [] (x ∷ []))
-one-unless true x = refl
-one-unless false x = refl
+pub one_not : (b : Bool) (x : Command) → digit_of (not b) ≡ length (cond b [] (x ∷ []))
+one_not true x = refl
+one_not false x = refl
 
 module _ (caps : PrivateCapabilities) (d : RenderPassDescriptor) (label : Bool) (set bytes : Lent) (at : ℕ) where
   abbrev pub opening : List Command

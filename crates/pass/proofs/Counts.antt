@@ -6,8 +6,8 @@ use native.Mathlib.Omega.{arith}
 use lib.Count.{ones}
 use lib.ListN.{length}
 use Rattle.mask.specs.Mask.{digit_of}
-use Rattle.records.specs.declared.pass.OptionDepthStencil.{OptionDepthStencil}
-use Rattle.records.specs.declared.pass.OptionDepthStencil.TheVariants as target
+use Rattle.std.specs.Prelude.{Option, None, Some}
+use Rattle.records.specs.declared.pass.DepthStencilAttachment.{DepthStencilAttachment}
 use Rattle.records.specs.declared.pass.RenderPassDescriptor.{RenderPassDescriptor}
 use Rattle.records.specs.declared.pipeline.PrivateCapabilities.{PrivateCapabilities}
 use Rattle.pass.specs.Render.{places_of, no_place, clears, attach_colors, attach_depth, clear_colors, clear_both, clear_depth}
@@ -16,13 +16,13 @@ use Rattle.pass.specs.Gather.{gather-count}
 use Rattle.pass.specs.Survey.{fills_at, attach_at, attach-gather, clears_at, clear_at, clear-gather}
 use Rattle.pass.specs.Plan.{filled_mask, cleared_mask}
 
-pub few-attach : (t : OptionDepthStencil) → length (attach_depth t) ≤ 1
-few-attach target.None = omega arith
-few-attach (target.Some d) = omega arith
+pub few-attach : (t : Option DepthStencilAttachment) → length (attach_depth t) ≤ 1
+few-attach None = omega arith
+few-attach (Some d) = omega arith
 
-pub few-clear : (t : OptionDepthStencil) → length (clear_depth t) ≤ 1
-few-clear target.None = omega arith
-few-clear (target.Some d) = go (clears d.depth_ops) (clears d.stencil_ops)
+pub few-clear : (t : Option DepthStencilAttachment) → length (clear_depth t) ≤ 1
+few-clear None = omega arith
+few-clear (Some d) = go (clears d.depth_ops) (clears d.stencil_ops)
   where
     go : (a b : Bool) → length (clear_both a b d) ≤ 1
     go true true = omega arith
@@ -30,13 +30,13 @@ few-clear (target.Some d) = go (clears d.depth_ops) (clears d.stencil_ops)
     go false true = omega arith
     go false false = omega arith
 
-pub attach-one : (t : OptionDepthStencil) → length (attach_depth t) ≡ digit_of (has_depth t)
-attach-one target.None = refl
-attach-one (target.Some d) = refl
+pub attach-one : (t : Option DepthStencilAttachment) → length (attach_depth t) ≡ digit_of (has_depth t)
+attach-one None = refl
+attach-one (Some d) = refl
 
-pub clear-one : (t : OptionDepthStencil) → length (clear_depth t) ≡ digit_of (clears_depth t)
-clear-one target.None = refl
-clear-one (target.Some d) = go (clears d.depth_ops) (clears d.stencil_ops)
+pub clear-one : (t : Option DepthStencilAttachment) → length (clear_depth t) ≡ digit_of (clears_depth t)
+clear-one None = refl
+clear-one (Some d) = go (clears d.depth_ops) (clears d.stencil_ops)
   where
     go : (a b : Bool) → length (clear_both a b d) ≡ digit_of (a || b)
     go true true = refl

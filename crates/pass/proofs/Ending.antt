@@ -10,8 +10,7 @@ use lib.ListN.{length, get_or, length-append, length-map}
 use Rattle.mask.specs.Mask.{digit_of}
 use Rattle.records.specs.Check.{some?}
 use Rattle.records.specs.declared.command.Command.TheVariants.{InvalidateAttachments, PopDebugGroup}
-use Rattle.records.specs.declared.command.OptionU32.{OptionU32}
-use Rattle.records.specs.declared.command.OptionU32.TheVariants.{None, Some}
+use Rattle.std.specs.Prelude.{Option, None, Some}
 use Rattle.records.specs.declared.state.PassState.{PassState}
 use Rattle.records.specs.declared.state.VertexState.{VertexState}
 use Rattle.slots.specs.Vertex.{attributes_of}
@@ -32,7 +31,7 @@ none-at f (x ∷ l) k d h e = go (f x) refl k h e (λ j. none-at f l j d)
     go false q zero h e ih = q
     go false q (suc k) h e ih = ih k (le_of_suc-le-suc h) e
 
-pub few-stamp : (q : OptionU32) → length (timestamp q) ≤ 1
+pub few-stamp : (q : Option ℕ) → length (timestamp q) ≤ 1
 few-stamp None = omega arith
 few-stamp (Some n) = omega arith
 

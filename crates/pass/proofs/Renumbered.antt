@@ -1,13 +1,12 @@
 -- Document 02, request 1: "Passes without empty places still match the Rust's list; with them, every field but that number does". Assumes nothing.
 -- `same-when-filled`: without empty places both rules give one list. `ours`, `rusts`: always one list with two numberings.
 -- `begin-same`, `begin-renumbered`: the same of all that the beginning of a pass records.
-use Rattle.std.specs.Prelude.{ℕ, suc, ◌+◌, ◌<◌, ◌≡◌, refl, false, List, [], ◌∷◌, ◌++◌, length}
+use Rattle.std.specs.Prelude.{ℕ, suc, ◌+◌, ◌<◌, ◌≡◌, refl, false, List, [], ◌∷◌, ◌++◌, length, Option, None, Some}
 use Rattle.std.proofs.Common.{sym, ap, ap₂, ◌∙◌, add-zero, add-suc, suc-add, zero-add, arith}
 use Rattle.records.specs.Check.{some?}
 use Rattle.records.specs.declared.command.Command.{Command}
 use Rattle.records.specs.declared.pass.ColorPlace.{ColorPlace}
-use Rattle.records.specs.declared.pass.OptionColorAttachment.{OptionColorAttachment}
-use Rattle.records.specs.declared.pass.OptionColorAttachment.TheVariants as place
+use Rattle.records.specs.declared.pass.ColorAttachment.{ColorAttachment}
 use Rattle.records.specs.declared.pass.RenderPassDescriptor.{RenderPassDescriptor}
 use Rattle.records.specs.declared.pipeline.PrivateCapabilities.{PrivateCapabilities}
 use Rattle.pass.specs.Marks.{Lent, Label}
@@ -19,10 +18,10 @@ unfolding clear_colors counted_clears some?
 same-when-filled i [] e = refl
 same-when-filled i (p ∷ ps) e = go p.attachment e (same-when-filled (suc i) ps)
   where
-    go : (o : OptionColorAttachment) → some? is_empty (record { attachment = o } ∷ ps) ≡ false → (some? is_empty ps ≡ false → clear_colors (suc i) ps ≡ counted_clears (suc i) ps)
+    go : (o : Option ColorAttachment) → some? is_empty (record { attachment = o } ∷ ps) ≡ false → (some? is_empty ps ≡ false → clear_colors (suc i) ps ≡ counted_clears (suc i) ps)
         → clear_place i o ++ clear_colors (suc i) ps ≡ clear_place i o ++ counted_clears (counts i o) ps
-    go place.None e ih = let z : ◌≡◌ {A = ℕ} 0 1 = cc in absurd (omega arith)
-    go (place.Some a) e ih = ap (λ (l : List Command). clear_place i (place.Some a) ++ l) (ih e)
+    go None e ih = let z : ◌≡◌ {A = ℕ} 0 1 = cc in absurd (omega arith)
+    go (Some a) e ih = ap (λ (l : List Command). clear_place i (Some a) ++ l) (ih e)
 
 -- ---- one list with two numberings
 pub ours : (i : ℕ) (ps : List ColorPlace) → clear_colors i ps ≡ clears_to (λ j. j) i ps
@@ -39,9 +38,9 @@ numbered N n i (p ∷ ps) h =
     here : N i ≡ n
     here = ap N (sym (add-zero i)) ∙ h 0 (omega arith) ∙ add-zero n
 
-    one : (o : OptionColorAttachment) (m : ℕ) → n + counts m o ≡ counts n o + m
-    one place.None m = refl
-    one (place.Some a) m = omega arith
+    one : (o : Option ColorAttachment) (m : ℕ) → n + counts m o ≡ counts n o + m
+    one None m = refl
+    one (Some a) m = omega arith
 
     later : (j : ℕ) → j < length ps → N (suc i + j) ≡ counts n p.attachment + filled_before ps j
     later j l = ap N (suc-add i j ∙ sym (add-suc i j)) ∙ h (suc j) (omega arith) ∙ one p.attachment (filled_before ps j)

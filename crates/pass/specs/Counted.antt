@@ -1,17 +1,16 @@
 -- The Rust's numbers of cleared draw buffers, which document 01 has and document 02's request 1 replaces: a clear counts only the filled places. Definitions only.
 -- The recorder does not use them; `Renumbered` says where both rules agree.
-use Rattle.std.specs.Prelude.{ℕ, zero, suc, Bool, not, List, [], ◌∷◌, ◌++◌}
+use Rattle.std.specs.Prelude.{ℕ, zero, suc, Bool, not, List, [], ◌∷◌, ◌++◌, Option, None, Some}
 use Rattle.records.specs.declared.command.Command.{Command}
 use Rattle.records.specs.declared.pass.ColorPlace.{ColorPlace}
-use Rattle.records.specs.declared.pass.OptionColorAttachment.{OptionColorAttachment}
-use Rattle.records.specs.declared.pass.OptionColorAttachment.TheVariants as place
+use Rattle.records.specs.declared.pass.ColorAttachment.{ColorAttachment}
 use Rattle.pass.specs.Render.{clear_place}
 use Rattle.pass.specs.Places.{is_filled}
 
 -- document 01: "A clear's draw buffer number counts only the filled places"
-abbrev pub counts : ℕ → OptionColorAttachment → ℕ
-counts n place.None = n
-counts n (place.Some a) = suc n
+abbrev pub counts : ℕ → Option ColorAttachment → ℕ
+counts n None = n
+counts n (Some a) = suc n
 
 unfoldable pub counted_clears : ℕ → List ColorPlace → List Command
 counted_clears n [] = []

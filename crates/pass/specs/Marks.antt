@@ -1,11 +1,8 @@
 -- What both kinds of pass begin and end with: timestamps and the label. Definitions only.
-use Rattle.std.specs.Prelude.{ℕ, ◌+◌, ◌^◌, Bool, true, false, cond, ◌&&◌, ◌||◌, List, [], ◌∷◌, leb, ltb, get_or, take, length}
+use Rattle.std.specs.Prelude.{ℕ, ◌+◌, ◌^◌, Bool, true, false, cond, ◌&&◌, ◌||◌, List, [], ◌∷◌, leb, ltb, get_or, take, length, Option, None, Some}
 use Rattle.records.specs.declared.command.Command.{Command}
 use Rattle.records.specs.declared.command.Command.TheVariants.{TimestampQuery, PushDebugGroup, PopDebugGroup}
-use Rattle.records.specs.declared.command.OptionU32.{OptionU32}
-use Rattle.records.specs.declared.command.OptionU32.TheVariants.{None, Some}
-use Rattle.records.specs.declared.pass.OptionTimestampWrites.{OptionTimestampWrites}
-use Rattle.records.specs.declared.pass.OptionTimestampWrites.TheVariants as writes
+use Rattle.records.specs.declared.pass.TimestampWrites.{TimestampWrites}
 
 -- a read-only run of numbers that is lent to a call, and how many of it count
 pub record Lent : Type 0 where
@@ -20,32 +17,32 @@ abbrev pub over_run : Lent → Bool
 over_run l = ltb (length l.run) l.count
 
 -- the query of a set at an index, if there is one
-abbrev pub query_at : Lent → OptionU32 → OptionU32
+abbrev pub query_at : Lent → Option ℕ → Option ℕ
 query_at set None = None
 query_at set (Some i) = Some (get_or (counted set) i 0)
 
 -- 3: an index past the set
-abbrev pub index_out : Lent → OptionU32 → Bool
+abbrev pub index_out : Lent → Option ℕ → Bool
 index_out set None = false
 index_out set (Some i) = leb set.count i
 
-abbrev pub timestamps_out : Lent → OptionTimestampWrites → Bool
-timestamps_out set writes.None = false
-timestamps_out set (writes.Some t) = index_out set t.beginning_of_pass_write_index || index_out set t.end_of_pass_write_index
+abbrev pub timestamps_out : Lent → Option TimestampWrites → Bool
+timestamps_out set None = false
+timestamps_out set (Some t) = index_out set t.beginning_of_pass_write_index || index_out set t.end_of_pass_write_index
 
-abbrev pub timestamp : OptionU32 → List Command
+abbrev pub timestamp : Option ℕ → List Command
 timestamp None = []
 timestamp (Some q) = TimestampQuery q ∷ []
 
 -- the timestamp of the beginning
-abbrev pub begin_timestamp : Lent → OptionTimestampWrites → List Command
-begin_timestamp set writes.None = []
-begin_timestamp set (writes.Some t) = timestamp (query_at set t.beginning_of_pass_write_index)
+abbrev pub begin_timestamp : Lent → Option TimestampWrites → List Command
+begin_timestamp set None = []
+begin_timestamp set (Some t) = timestamp (query_at set t.beginning_of_pass_write_index)
 
 -- the query that the end of the pass writes; with no timestamps it is what it was
-abbrev pub end_timestamp : Lent → OptionTimestampWrites → OptionU32 → OptionU32
-end_timestamp set writes.None old = old
-end_timestamp set (writes.Some t) old = query_at set t.end_of_pass_write_index
+abbrev pub end_timestamp : Lent → Option TimestampWrites → Option ℕ → Option ℕ
+end_timestamp set None old = old
+end_timestamp set (Some t) old = query_at set t.end_of_pass_write_index
 
 -- a label: whether there is one, and its bytes
 pub record Label : Type 0 where

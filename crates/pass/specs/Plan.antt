@@ -1,13 +1,10 @@
 -- The parts of what the beginning of a render pass records, and the plan that counts them. Definitions only.
-use Rattle.std.specs.Prelude.{ℕ, ◌+◌, Bool, cond, List, [], ◌∷◌, ◌++◌, length}
+use Rattle.std.specs.Prelude.{ℕ, ◌+◌, Bool, cond, List, [], ◌∷◌, ◌++◌, length, Option, None, Some}
 use Rattle.mask.specs.Mask.{digit_of}
 use Rattle.mask.specs.By.{mask_by}
 use Rattle.records.specs.declared.command.Command.{Command}
 use Rattle.records.specs.declared.command.Command.TheVariants.{ResetFramebuffer, SetDrawColorBuffers, SetScissor, SetViewport}
-use Rattle.records.specs.declared.command.OptionU32.{OptionU32}
-use Rattle.records.specs.declared.command.OptionU32.TheVariants.{None}
-use Rattle.records.specs.declared.pass.OptionTimestampWrites.{OptionTimestampWrites}
-use Rattle.records.specs.declared.pass.OptionTimestampWrites.TheVariants as writes
+use Rattle.records.specs.declared.pass.TimestampWrites.{TimestampWrites}
 use Rattle.records.specs.declared.pass.RenderPassDescriptor.{RenderPassDescriptor}
 use Rattle.records.specs.declared.pipeline.PrivateCapabilities.{PrivateCapabilities}
 use Rattle.pass.specs.Marks.{Lent, query_at, timestamp}
@@ -16,9 +13,9 @@ use Rattle.pass.specs.Places.{place_at, is_filled, is_cleared}
 use Rattle.pass.specs.declared.begin.BeginPlan.{BeginPlan}
 
 -- the query that the beginning of the pass writes
-abbrev pub begin_query_meaning : Lent → OptionTimestampWrites → OptionU32
-begin_query_meaning set writes.None = None
-begin_query_meaning set (writes.Some t) = query_at set t.beginning_of_pass_write_index
+abbrev pub begin_query_meaning : Lent → Option TimestampWrites → Option ℕ
+begin_query_meaning set None = None
+begin_query_meaning set (Some t) = query_at set t.beginning_of_pass_write_index
 
 abbrev pub filled_mask : RenderPassDescriptor → ℕ
 filled_mask d = mask_by 8 (λ i. is_filled (place_at d i))

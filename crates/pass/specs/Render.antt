@@ -1,5 +1,5 @@
 -- `begin_render_pass` and `end_render_pass`: document 01, "The pass record". Definitions only.
-use Rattle.std.specs.Prelude.{ℕ, suc, ◌+◌, Bool, true, false, cond, not, ◌&&◌, ◌||◌, List, [], ◌∷◌, ◌++◌, map, pos, nat_abs, ltb, eqb, get_or, take, drop, length}
+use Rattle.std.specs.Prelude.{ℕ, suc, ◌+◌, Bool, true, false, cond, not, ◌&&◌, ◌||◌, List, [], ◌∷◌, ◌++◌, map, pos, nat_abs, ltb, eqb, get_or, take, drop, length, Option, None, Some, unwrap_or}
 use Rattle.std.specs.Float.{binary32}
 use Rattle.std.specs.Float.Ieee.{of_bits}
 use Rattle.mask.specs.Mask.{test_bit}
@@ -9,8 +9,6 @@ use Rattle.names.specs.Gl.{GL_COLOR_ATTACHMENT0, GL_DEPTH_ATTACHMENT, GL_STENCIL
 use Rattle.records.specs.Check.{some?}
 use Rattle.records.specs.declared.command.Command.{Command}
 use Rattle.records.specs.declared.command.Command.TheVariants.{ResetFramebuffer, BindAttachment, ResolveAttachment, InvalidateAttachments, SetDrawColorBuffers, ClearColorF, ClearColorU, ClearColorI, ClearDepth, ClearStencil, ClearDepthAndStencil, SetScissor, SetViewport}
-use Rattle.records.specs.declared.command.OptionU32.{OptionU32}
-use Rattle.records.specs.declared.command.OptionU32.TheVariants.{None}
 use Rattle.records.specs.declared.command.Extent3d.{Extent3d}
 use Rattle.records.specs.declared.command.RectI32.{RectI32}
 use Rattle.records.specs.declared.command.DepthRange.{DepthRange}
@@ -19,15 +17,9 @@ use Rattle.records.specs.declared.command.TextureInner.TheVariants.{Renderbuffer
 use Rattle.records.specs.declared.command.SampleKind.{SampleKind}
 use Rattle.records.specs.declared.command.SampleKind.TheVariants as kind
 use Rattle.records.specs.declared.command.TextureView.{TextureView}
-use Rattle.records.specs.declared.pass.OptionView.{OptionView}
-use Rattle.records.specs.declared.pass.OptionView.TheVariants as view
 use Rattle.records.specs.declared.pass.ColorAttachment.{ColorAttachment}
-use Rattle.records.specs.declared.pass.OptionColorAttachment.{OptionColorAttachment}
-use Rattle.records.specs.declared.pass.OptionColorAttachment.TheVariants as place
 use Rattle.records.specs.declared.pass.ColorPlace.{ColorPlace}
 use Rattle.records.specs.declared.pass.DepthStencilAttachment.{DepthStencilAttachment}
-use Rattle.records.specs.declared.pass.OptionDepthStencil.{OptionDepthStencil}
-use Rattle.records.specs.declared.pass.OptionDepthStencil.TheVariants as target
 use Rattle.records.specs.declared.pass.RenderPassDescriptor.{RenderPassDescriptor}
 use Rattle.records.specs.declared.pipeline.PrivateCapabilities.{PrivateCapabilities}
 use Rattle.records.specs.declared.state.ResolveDesc.{ResolveDesc}
@@ -66,9 +58,9 @@ is_texture DefaultRenderbuffer = false
 is_texture (Texture raw t) = true
 is_texture (ExternalNativeFramebuffer raw) = false
 
-abbrev pub filled_with : (TextureInner → Bool) → OptionColorAttachment → Bool
-filled_with f place.None = false
-filled_with f (place.Some a) = f a.view.inner
+abbrev pub filled_with : (TextureInner → Bool) → Option ColorAttachment → Bool
+filled_with f None = false
+filled_with f (Some a) = f a.view.inner
 
 -- "If place 0 is the default renderbuffer"
 abbrev pub default_first : List ColorPlace → Bool
@@ -80,13 +72,12 @@ abbrev pub to_external : List ColorPlace → Bool
 to_external ps = some? (λ (p : ColorPlace). filled_with is_external p.attachment) ps
 
 -- ---- multisampled render to texture: the resolve view is attached in place of the view, at place 0
-abbrev pub resolves_in_place : PrivateCapabilities → ℕ → ℕ → OptionView → Bool
-resolves_in_place caps i ops view.None = false
-resolves_in_place caps i ops (view.Some v) = is_texture v.inner && (caps.multisampled_render_to_texture && (not (stores ops) && eqb i 0))
+abbrev pub resolves_in_place : PrivateCapabilities → ℕ → ℕ → Option TextureView → Bool
+resolves_in_place caps i ops None = false
+resolves_in_place caps i ops (Some v) = is_texture v.inner && (caps.multisampled_render_to_texture && (not (stores ops) && eqb i 0))
 
-abbrev pub view_or : TextureView → OptionView → TextureView
-view_or v view.None = v
-view_or v (view.Some w) = w
+abbrev pub view_or : TextureView → Option TextureView → TextureView
+view_or v o = unwrap_or o v
 
 -- the attachment of place i
 abbrev pub attach_color : PrivateCapabilities → ℕ → ℕ → ColorAttachment → Command
@@ -95,42 +86,42 @@ attach_color caps samples i a =
     (BindAttachment (GL_COLOR_ATTACHMENT0 + i) (view_or a.view a.resolve_target) None samples)
     (BindAttachment (GL_COLOR_ATTACHMENT0 + i) a.view a.depth_slice 1)
 
-abbrev pub attach_place : PrivateCapabilities → ℕ → ℕ → OptionColorAttachment → List Command
-attach_place caps samples i place.None = []
-attach_place caps samples i (place.Some a) = attach_color caps samples i a ∷ []
+abbrev pub attach_place : PrivateCapabilities → ℕ → ℕ → Option ColorAttachment → List Command
+attach_place caps samples i None = []
+attach_place caps samples i (Some a) = attach_color caps samples i a ∷ []
 
 unfoldable pub attach_colors : PrivateCapabilities → ℕ → ℕ → List ColorPlace → List Command
 attach_colors caps samples i [] = []
 attach_colors caps samples i (p ∷ ps) = attach_place caps samples i p.attachment ++ attach_colors caps samples (suc i) ps
 
 -- the resolves of the end: places with a resolve view that was not attached in place
-abbrev pub resolve_of : Bool → ℕ → OptionView → List ResolveDesc
-resolve_of inPlace i view.None = []
-resolve_of inPlace i (view.Some v) = cond inPlace [] (record { place = i; dst = v } ∷ [])
+abbrev pub resolve_of : Bool → ℕ → Option TextureView → List ResolveDesc
+resolve_of inPlace i None = []
+resolve_of inPlace i (Some v) = cond inPlace [] (record { place = i; dst = v } ∷ [])
 
-abbrev pub resolve_place : PrivateCapabilities → ℕ → OptionColorAttachment → List ResolveDesc
-resolve_place caps i place.None = []
-resolve_place caps i (place.Some a) = resolve_of (resolves_in_place caps i a.ops a.resolve_target) i a.resolve_target
+abbrev pub resolve_place : PrivateCapabilities → ℕ → Option ColorAttachment → List ResolveDesc
+resolve_place caps i None = []
+resolve_place caps i (Some a) = resolve_of (resolves_in_place caps i a.ops a.resolve_target) i a.resolve_target
 
 unfoldable pub resolves_from : PrivateCapabilities → ℕ → List ColorPlace → List ResolveDesc
 resolves_from caps i [] = []
 resolves_from caps i (p ∷ ps) = resolve_place caps i p.attachment ++ resolves_from caps (suc i) ps
 
 -- ---- invalidation: "a set of ten bits: colours 0 to 7, then depth, then stencil"
-abbrev pub invalid_color : PrivateCapabilities → ℕ → OptionColorAttachment → Bool
-invalid_color caps i place.None = false
-invalid_color caps i (place.Some a) = not (resolves_in_place caps i a.ops a.resolve_target) && discards a.ops
+abbrev pub invalid_color : PrivateCapabilities → ℕ → Option ColorAttachment → Bool
+invalid_color caps i None = false
+invalid_color caps i (Some a) = not (resolves_in_place caps i a.ops a.resolve_target) && discards a.ops
 
 abbrev pub no_place : ColorPlace
-no_place = record { attachment = place.None }
+no_place = record { attachment = None }
 
-abbrev pub invalid_depth : OptionDepthStencil → Bool
-invalid_depth target.None = false
-invalid_depth (target.Some d) = test_bit d.view.aspects 1 && discards d.depth_ops
+abbrev pub invalid_depth : Option DepthStencilAttachment → Bool
+invalid_depth None = false
+invalid_depth (Some d) = test_bit d.view.aspects 1 && discards d.depth_ops
 
-abbrev pub invalid_stencil : OptionDepthStencil → Bool
-invalid_stencil target.None = false
-invalid_stencil (target.Some d) = test_bit d.view.aspects 2 && discards d.stencil_ops
+abbrev pub invalid_stencil : Option DepthStencilAttachment → Bool
+invalid_stencil None = false
+invalid_stencil (Some d) = test_bit d.view.aspects 2 && discards d.stencil_ops
 
 abbrev pub invalid_at : PrivateCapabilities → RenderPassDescriptor → ℕ → Bool
 invalid_at caps d i =
@@ -144,9 +135,9 @@ invalidations caps d = mask_by 10 (invalid_at caps d)
 abbrev pub depth_point : ℕ → ℕ
 depth_point aspects = cond (eqb aspects 2) GL_DEPTH_ATTACHMENT (cond (eqb aspects 4) GL_STENCIL_ATTACHMENT GL_DEPTH_STENCIL_ATTACHMENT)
 
-abbrev pub attach_depth : OptionDepthStencil → List Command
-attach_depth target.None = []
-attach_depth (target.Some d) = BindAttachment (depth_point d.view.aspects) d.view None 1 ∷ []
+abbrev pub attach_depth : Option DepthStencilAttachment → List Command
+attach_depth None = []
+attach_depth (Some d) = BindAttachment (depth_point d.view.aspects) d.view None 1 ∷ []
 
 abbrev pub attachments : PrivateCapabilities → RenderPassDescriptor → List Command
 attachments caps d = attach_colors caps d.sample_count 0 (places_of d) ++ attach_depth d.depth_stencil_attachment
@@ -184,9 +175,9 @@ clear_color n a kind.Sint =
     ∷ []
 clear_color n a kind.Depth = []
 
-abbrev pub clear_place : ℕ → OptionColorAttachment → List Command
-clear_place n place.None = []
-clear_place n (place.Some a) = cond (clears a.ops) (clear_color n a a.view.kind) []
+abbrev pub clear_place : ℕ → Option ColorAttachment → List Command
+clear_place n None = []
+clear_place n (Some a) = cond (clears a.ops) (clear_color n a a.view.kind) []
 
 -- document 02, request 1: "a clear's draw buffer is the number of its place, empty places counted"; place i is the first of the list
 unfoldable pub clear_colors : ℕ → List ColorPlace → List Command
@@ -199,9 +190,9 @@ clear_both true false d = ClearDepth d.clear_depth ∷ []
 clear_both false true d = ClearStencil d.clear_stencil ∷ []
 clear_both false false d = []
 
-abbrev pub clear_depth : OptionDepthStencil → List Command
-clear_depth target.None = []
-clear_depth (target.Some d) = clear_both (clears d.depth_ops) (clears d.stencil_ops) d
+abbrev pub clear_depth : Option DepthStencilAttachment → List Command
+clear_depth None = []
+clear_depth (Some d) = clear_both (clears d.depth_ops) (clears d.stencil_ops) d
 
 -- ---- the whole beginning
 -- the pass's extent as a rectangle: "keeps its 32 bits"
@@ -249,9 +240,9 @@ is_depth kind.Uint = false
 is_depth kind.Sint = false
 is_depth kind.Depth = true
 
-abbrev pub clears_depth_kind : OptionColorAttachment → Bool
-clears_depth_kind place.None = false
-clears_depth_kind (place.Some a) = clears a.ops && is_depth a.view.kind
+abbrev pub clears_depth_kind : Option ColorAttachment → Bool
+clears_depth_kind None = false
+clears_depth_kind (Some a) = clears a.ops && is_depth a.view.kind
 
 abbrev pub pass_wrong_kind : RenderPassDescriptor → Bool
 pass_wrong_kind d =
@@ -284,7 +275,7 @@ end_render_pass_state s =
     }
 
 -- ---- the compute pass
-abbrev pub begin_compute_pass_state : Label → OptionU32 → PassState → PassState
+abbrev pub begin_compute_pass_state : Label → Option ℕ → PassState → PassState
 begin_compute_pass_state label stamp s =
     record {
       render_size = s.render_size;

@@ -1,12 +1,10 @@
 -- The resolves of a pass, laid one after the other over an array. Assumes nothing.
 -- `resolve-gather`: they are those of the resolved places. `lay-next`: one more is appended.
-use Rattle.std.specs.Prelude.{ℕ, zero, suc, ◌+◌, ◌≤◌, ◌<◌, ◌≡◌, refl, Bool, true, false, cond, not, ◌&&◌, List, [], ◌∷◌, ◌++◌, length, set, drop}
+use Rattle.std.specs.Prelude.{ℕ, zero, suc, ◌+◌, ◌≤◌, ◌<◌, ◌≡◌, refl, Bool, true, false, cond, not, ◌&&◌, List, [], ◌∷◌, ◌++◌, length, set, drop, Option, None, Some}
 use Rattle.std.proofs.Common.{ap, append-nil, not-suc-le-zero, arith, length-append, length-drop}
 use Rattle.records.specs.declared.pass.ColorPlace.{ColorPlace}
-use Rattle.records.specs.declared.pass.OptionView.{OptionView}
-use Rattle.records.specs.declared.pass.OptionView.TheVariants as view
-use Rattle.records.specs.declared.pass.OptionColorAttachment.{OptionColorAttachment}
-use Rattle.records.specs.declared.pass.OptionColorAttachment.TheVariants as place
+use Rattle.records.specs.declared.command.TextureView.{TextureView}
+use Rattle.records.specs.declared.pass.ColorAttachment.{ColorAttachment}
 use Rattle.records.specs.declared.pipeline.PrivateCapabilities.{PrivateCapabilities}
 use Rattle.records.specs.declared.state.ResolveDesc.{ResolveDesc}
 use Rattle.pass.specs.Render.{resolves_in_place, resolve_of, resolve_place, resolves_from}
@@ -37,14 +35,14 @@ resolve-gather caps i (p ∷ ps) = rw (resolve-gather caps (suc i) ps) (go p.att
     l : List ResolveDesc
     l = gather (resolves_at caps) resolve_at (suc i) ps
 
-    by : (v : OptionView) (b : Bool) → resolve_of b i v ++ l ≡ cond (has_view v && not b) (resolve_to i v ∷ l) l
-    by view.None b = refl
-    by (view.Some v) true = refl
-    by (view.Some v) false = refl
+    by : (v : Option TextureView) (b : Bool) → resolve_of b i v ++ l ≡ cond (has_view v && not b) (resolve_to i v ∷ l) l
+    by None b = refl
+    by (Some v) true = refl
+    by (Some v) false = refl
 
-    go : (o : OptionColorAttachment) → resolve_place caps i o ++ l ≡ cond (is_resolved caps i o) (resolve_desc i o ∷ l) l
-    go place.None = refl
-    go (place.Some a) = by a.resolve_target (resolves_in_place caps i a.ops a.resolve_target)
+    go : (o : Option ColorAttachment) → resolve_place caps i o ++ l ≡ cond (is_resolved caps i o) (resolve_desc i o ∷ l) l
+    go None = refl
+    go (Some a) = by a.resolve_target (resolves_in_place caps i a.ops a.resolve_target)
 
 module _ {A : Type 0} where
   put_last : (a : A) (xs ys : List A) → 0 < length ys → set (xs ++ ys) (length xs) a ≡ (xs ++ (a ∷ [])) ++ drop 1 ys

@@ -1,44 +1,17 @@
--- The eight colour places of a pass gone through once, as masks; the lists of `Render` by their places. Assumes nothing.
+-- The lists of `Render` by the places of the pass. Assumes nothing.
 -- `attach-gather`, `clear-gather`: the attachments are those of the filled places; the clears are those of the cleared places,
 -- each to the draw buffer with its place's number.
-use Rattle.std.specs.Prelude.{ℕ, suc, ◌≡◌, refl, Bool, true, false, cond, not, ◌&&◌, List, [], ◌∷◌, ◌++◌, get_or}
+use Rattle.std.specs.Prelude.{ℕ, suc, ◌≡◌, refl, Bool, true, false, cond, not, ◌&&◌, List, [], ◌∷◌, ◌++◌, get_or, Option, None, Some}
 use Rattle.std.proofs.Common.{ap, ◌∙◌}
-use Rattle.mask.specs.Mask.{set_bit_if}
-use Rattle.mask.specs.By.{mask_by}
 use Rattle.records.specs.declared.command.Command.{Command}
 use Rattle.records.specs.declared.command.SampleKind.{SampleKind}
 use Rattle.records.specs.declared.command.SampleKind.TheVariants as kind
 use Rattle.records.specs.declared.pass.ColorPlace.{ColorPlace}
-use Rattle.records.specs.declared.pass.OptionColorAttachment.{OptionColorAttachment}
-use Rattle.records.specs.declared.pass.OptionColorAttachment.TheVariants as place
-use Rattle.records.specs.declared.pass.RenderPassDescriptor.{RenderPassDescriptor}
+use Rattle.records.specs.declared.pass.ColorAttachment.{ColorAttachment}
 use Rattle.records.specs.declared.pipeline.PrivateCapabilities.{PrivateCapabilities}
-use Rattle.pass.specs.Render.{filled_with, is_external, is_depth, clears, clears_depth_kind, invalid_color, attach_place, attach_colors, clear_color, clear_place, clear_colors}
-use Rattle.pass.specs.Places.{place_at, is_filled, is_cleared, attach_command, clear_command, no_command}
+use Rattle.pass.specs.Render.{is_depth, clears, attach_place, attach_colors, clear_color, clear_place, clear_colors}
+use Rattle.pass.specs.Places.{is_filled, is_cleared, attach_command, clear_command, no_command}
 use Rattle.pass.specs.Gather.{gather}
-use Rattle.pass.specs.declared.survey.PlaceMasks.{PlaceMasks}
-
--- the places below n
-abbrev pub survey_of : PrivateCapabilities → RenderPassDescriptor → ℕ → PlaceMasks
-survey_of caps d n =
-    record {
-      filled = mask_by n (λ i. is_filled (place_at d i));
-      cleared = mask_by n (λ i. is_cleared (place_at d i));
-      invalid = mask_by n (λ i. invalid_color caps i (place_at d i));
-      external = mask_by n (λ i. filled_with is_external (place_at d i));
-      wrong = mask_by n (λ i. clears_depth_kind (place_at d i));
-    }
-
--- one place more
-abbrev pub survey_one : PrivateCapabilities → ℕ → OptionColorAttachment → PlaceMasks → PlaceMasks
-survey_one caps i p s =
-    record {
-      filled = set_bit_if (is_filled p) s.filled i;
-      cleared = set_bit_if (is_cleared p) s.cleared i;
-      invalid = set_bit_if (invalid_color caps i p) s.invalid i;
-      external = set_bit_if (filled_with is_external p) s.external i;
-      wrong = set_bit_if (clears_depth_kind p) s.wrong i;
-    }
 
 -- ---- the attachments
 abbrev pub fills_at : ℕ → ColorPlace → Bool
@@ -52,11 +25,11 @@ unfolding attach_colors gather
 attach-gather caps samples i [] = refl
 attach-gather caps samples i (p ∷ ps) = go p.attachment (attach-gather caps samples (suc i) ps)
   where
-    go : (o : OptionColorAttachment) → attach_colors caps samples (suc i) ps ≡ gather fills_at (attach_at caps samples) (suc i) ps
+    go : (o : Option ColorAttachment) → attach_colors caps samples (suc i) ps ≡ gather fills_at (attach_at caps samples) (suc i) ps
         → attach_place caps samples i o ++ attach_colors caps samples (suc i) ps
         ≡ cond (is_filled o) (attach_command caps samples i o ∷ gather fills_at (attach_at caps samples) (suc i) ps) (gather fills_at (attach_at caps samples) (suc i) ps)
-    go place.None ih = ih
-    go (place.Some a) ih = rw ih
+    go None ih = ih
+    go (Some a) ih = rw ih
 
 -- ---- the clears
 abbrev pub clears_at : ℕ → ColorPlace → Bool
@@ -65,9 +38,9 @@ clears_at i p = is_cleared p.attachment
 abbrev pub clear_at : ℕ → ColorPlace → Command
 clear_at i p = clear_command i p.attachment
 
-one-clear : (n : ℕ) (o : OptionColorAttachment) (l : List Command) → clear_place n o ++ l ≡ cond (is_cleared o) (clear_command n o ∷ l) l
-one-clear n place.None l = refl
-one-clear n (place.Some a) l = go (clears a.ops) a.view.kind
+one-clear : (n : ℕ) (o : Option ColorAttachment) (l : List Command) → clear_place n o ++ l ≡ cond (is_cleared o) (clear_command n o ∷ l) l
+one-clear n None l = refl
+one-clear n (Some a) l = go (clears a.ops) a.view.kind
   where
     go : (b : Bool) (k : SampleKind) → cond b (clear_color n a k) [] ++ l ≡ cond (b && not (is_depth k)) (get_or (cond b (clear_color n a k) []) 0 no_command ∷ l) l
     go true kind.Float = refl

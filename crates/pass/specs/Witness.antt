@@ -1,5 +1,5 @@
 -- Beginnings of passes worked out, by computation. Assumes nothing.
-use Rattle.std.specs.Prelude.{◌≡◌, refl, true, false, List, [], ◌∷◌, ◌++◌, pos, length, drop, replicate}
+use Rattle.std.specs.Prelude.{◌≡◌, refl, true, false, List, [], ◌∷◌, ◌++◌, pos, length, drop, replicate, None, Some}
 use Rattle.std.specs.Float.{binary64}
 use Rattle.std.specs.Float.Ieee.{of_bits}
 use Rattle.mask.specs.Mask.{test_bit}
@@ -8,17 +8,12 @@ use Rattle.records.specs.Start.{start_range}
 use Rattle.records.specs.Check.{some?}
 use Rattle.records.specs.declared.command.Command.{Command}
 use Rattle.records.specs.declared.command.Command.TheVariants.{ResetFramebuffer, BindAttachment, SetDrawColorBuffers, ClearColorU, SetScissor, SetViewport}
-use Rattle.records.specs.declared.command.OptionU32.TheVariants.{None}
 use Rattle.records.specs.declared.command.RectI32.{RectI32}
 use Rattle.records.specs.declared.command.SampleKind.TheVariants as kind
 use Rattle.records.specs.declared.command.TextureInner.{TextureInner}
 use Rattle.records.specs.declared.command.TextureInner.TheVariants.{DefaultRenderbuffer, Texture}
 use Rattle.records.specs.declared.command.TextureView.{TextureView}
 use Rattle.records.specs.declared.pass.ColorPlace.{ColorPlace}
-use Rattle.records.specs.declared.pass.OptionColorAttachment.TheVariants as place
-use Rattle.records.specs.declared.pass.OptionDepthStencil.TheVariants as target
-use Rattle.records.specs.declared.pass.OptionTimestampWrites.TheVariants as writes
-use Rattle.records.specs.declared.pass.OptionView.TheVariants as view
 use Rattle.records.specs.declared.pass.RenderPassDescriptor.{RenderPassDescriptor}
 use Rattle.records.specs.declared.pipeline.PrivateCapabilities.{PrivateCapabilities}
 use Rattle.pass.specs.Marks.{Lent}
@@ -44,8 +39,8 @@ pass_of places =
       sample_count = 1;
       color_attachments = places ++ drop (length places) (replicate 8 no_place);
       color_attachment_count = length places;
-      depth_stencil_attachment = target.None;
-      timestamp_writes = writes.None;
+      depth_stencil_attachment = None;
+      timestamp_writes = None;
     }
 
 abbrev begins : List ColorPlace → List Command
@@ -62,11 +57,11 @@ abbrev cleared : TextureInner → ColorPlace
 cleared inner =
     record {
       attachment =
-          place.Some
+          Some
           (record {
             view = viewed inner;
             depth_slice = None;
-            resolve_target = view.None;
+            resolve_target = None;
             ops = 10;
             clear_value = record { r = of_bits binary64 0; g = of_bits binary64 0; b = of_bits binary64 0; a = of_bits binary64 0 };
           });

@@ -22,7 +22,7 @@ pub(crate) fn attach_color_at(
     ensures { filled ≡ filled_mask d → Stands result k (attach_colors caps d.sample_count 0 (places_of d)) }
 {
     let i = mask::nth(filled, k);
-    let p = place_at(d, i);
+    let p = place_at(&d, i);
     attach_place(caps, d.sample_count, i, p)
 }
 

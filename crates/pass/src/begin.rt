@@ -9,15 +9,15 @@ ghost use Rattle.pass.specs.Plan.{filled_mask, cleared_mask, attached, all_clear
 
 use crate::attach::attachment_at;
 use crate::clears::clear_at;
-use crate::depth::{clears_depth, has_depth};
+use crate::depth::clears_depth;
 use crate::marks::begin_query;
 use crate::opening::{opening_at, opening_count};
-use crate::render::default_first;
-use crate::survey::survey;
+use crate::render::{default_first, to_external};
+use crate::survey::{cleared_mask, filled_mask};
 use bindings::group::one_if;
 use numbers::{as_i32, of_bits32};
 use records::check::within;
-use records::command::{Command, DepthRange, Extent3d, OptionU32, RectI32};
+use records::command::{Command, DepthRange, Extent3d, RectI32};
 use records::pass::RenderPassDescriptor;
 use records::pipeline::PrivateCapabilities;
 
@@ -25,7 +25,7 @@ use records::pipeline::PrivateCapabilities;
 // the parts have.
 #[derive(Clone, Copy)]
 pub struct BeginPlan {
-    pub query: OptionU32,
+    pub query: Option<u32>,
     pub label: bool,
     pub is_default: bool,
     pub filled: u32,
@@ -62,9 +62,7 @@ fn attachment_count(d: RenderPassDescriptor, is_default: bool, filled: u32) -> u
     if is_default {
         0
     } else {
-        let target = d.depth_stencil_attachment;
-        let depth = has_depth(target);
-        mask::count(filled) + one_if(depth)
+        mask::count(filled) + one_if(d.depth_stencil_attachment.is_some())
     }
 }
 
@@ -88,19 +86,19 @@ pub fn begin_plan(
 {
     let writes = d.timestamp_writes;
     let query = begin_query(set, set_count, writes);
-    let masks = survey(caps, d);
+    let filled = filled_mask(&d);
+    let cleared = cleared_mask(&d);
     let is_default = default_first(d);
     let opening = opening_count(query, label);
-    let attachments = attachment_count(d, is_default, masks.filled);
-    let own = masks.external == 0;
-    let buffers = one_if(own);
-    let clears = clear_count(d, masks.cleared);
+    let attachments = attachment_count(d, is_default, filled);
+    let buffers = one_if(!to_external(&d));
+    let clears = clear_count(d, cleared);
     BeginPlan {
         query,
         label,
         is_default,
-        filled: masks.filled,
-        cleared: masks.cleared,
+        filled,
+        cleared,
         opening,
         attachments,
         buffers,

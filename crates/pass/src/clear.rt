@@ -1,24 +1,18 @@
 // The clear of one colour place. The contracts cite specs/Render.antt and specs/Places.antt.
-ghost use Rattle.std.specs.Prelude.{◌≡◌, ◌∷◌, [], get_or};
+ghost use Rattle.std.specs.Prelude.{◌≡◌, ◌∷◌, [], get_or, Some};
 ghost use Rattle.records.specs.declared.command.SampleKind.TheVariants as kind;
 ghost use Rattle.pass.specs.Render.{is_depth, clear_color, clears_depth_kind};
 ghost use Rattle.pass.specs.Places.{is_cleared, clear_command, no_command};
-ghost use Rattle.records.specs.declared.pass.OptionColorAttachment.TheVariants.{Some};
 
 use crate::place::CLEAR;
 use numbers::{to_f32, trunc_i32_f64, trunc_u32_f64};
 use records::command::{ClearColor, ColorI32, ColorU32, Command, SampleKind};
-use records::pass::{ColorAttachment, OptionColorAttachment};
+use records::pass::ColorAttachment;
 
 fn is_depth(k: SampleKind) -> bool
     ensures { result ≡ is_depth k }
 {
-    match k {
-        SampleKind::Float => false,
-        SampleKind::Uint => false,
-        SampleKind::Sint => false,
-        SampleKind::Depth => true,
-    }
+    k == SampleKind::Depth
 }
 
 fn clear_float(n: u32, a: ColorAttachment) -> Command
@@ -51,6 +45,7 @@ fn clear_uint(n: u32, a: ColorAttachment) -> Command
     Command::ClearColorU(n, color)
 }
 
+// Not one function with `clear_uint`: the record, the conversion and the variant all differ.
 fn clear_sint(n: u32, a: ColorAttachment) -> Command
     ensures { result ∷ [] ≡ clear_color n a kind.Sint }
 {
@@ -89,42 +84,22 @@ fn clear_color(n: u32, a: ColorAttachment) -> Command
 }
 
 // The clear of a place, to draw buffer n.
-pub(crate) fn clear_place(n: u32, p: OptionColorAttachment) -> Command
+pub(crate) fn clear_place(n: u32, p: Option<ColorAttachment>) -> Command
     ensures { result ≡ clear_command n p }
 {
-    match p {
-        OptionColorAttachment::None => Command::PopDebugGroup,
-        OptionColorAttachment::Some(a) => clear_color(n, a),
-    }
+    p.map_or(Command::PopDebugGroup, |a| clear_color(n, a))
 }
 
 // Whether a place records a clear.
-pub(crate) fn is_cleared(p: OptionColorAttachment) -> bool
+pub(crate) fn is_cleared(p: Option<ColorAttachment>) -> bool
     ensures { result ≡ is_cleared p }
 {
-    match p {
-        OptionColorAttachment::None => false,
-        OptionColorAttachment::Some(a) => {
-            let view = a.view;
-            let k = view.kind;
-            let clears = mask::test(a.ops, CLEAR);
-            let depth = is_depth(k);
-            clears & !depth
-        }
-    }
+    p.is_some_and(|a| mask::test(a.ops, CLEAR) & !is_depth(a.view.kind))
 }
 
 // Condition 5 of a place: a depth kind cleared as colour.
-pub(crate) fn clears_depth_kind(p: OptionColorAttachment) -> bool
+pub(crate) fn clears_depth_kind(p: Option<ColorAttachment>) -> bool
     ensures { result ≡ clears_depth_kind p }
 {
-    match p {
-        OptionColorAttachment::None => false,
-        OptionColorAttachment::Some(a) => {
-            let view = a.view;
-            let k = view.kind;
-            let clears = mask::test(a.ops, CLEAR);
-            clears & is_depth(k)
-        }
-    }
+    p.is_some_and(|a| mask::test(a.ops, CLEAR) & is_depth(a.view.kind))
 }

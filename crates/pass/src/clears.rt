@@ -16,7 +16,7 @@ pub(crate) fn clear_color_at(d: RenderPassDescriptor, cleared: u32, k: u32) -> C
     ensures { cleared ≡ cleared_mask d → Stands result k (clear_colors 0 (places_of d)) }
 {
     let i = mask::nth(cleared, k);
-    let p = place_at(d, i);
+    let p = place_at(&d, i);
     clear_place(i, p)
 }
 

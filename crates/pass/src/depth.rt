@@ -1,12 +1,11 @@
 // Depth and stencil of a pass. The contracts cite specs/Render.antt and specs/Places.antt.
-ghost use Rattle.std.specs.Prelude.{◌≡◌, get_or};
+ghost use Rattle.std.specs.Prelude.{◌≡◌, get_or, Some};
 ghost use Rattle.pass.specs.Render.{depth_point, invalid_depth, invalid_stencil, clear_both};
-ghost use Rattle.pass.specs.Places.{has_depth, clears_depth, attach_depth_command, clear_depth_command, no_command};
-ghost use Rattle.records.specs.declared.pass.OptionDepthStencil.TheVariants.{Some};
+ghost use Rattle.pass.specs.Places.{clears_depth, attach_depth_command, clear_depth_command, no_command};
 
 use crate::place::{CLEAR, DISCARD};
-use records::command::{Command, OptionU32};
-use records::pass::{ASPECT_DEPTH, ASPECT_STENCIL, DepthStencilAttachment, OptionDepthStencil};
+use records::command::Command;
+use records::pass::{ASPECT_DEPTH, ASPECT_STENCIL, DepthStencilAttachment};
 
 pub const DEPTH_ATTACHMENT: u32 = 0x8d00;
 
@@ -35,64 +34,36 @@ fn bind_depth(d: DepthStencilAttachment) -> Command
     Command::BindAttachment {
         attachment: depth_point(view.aspects),
         view,
-        depth_slice: OptionU32::None,
+        depth_slice: None,
         sample_count: 1,
     }
 }
 
-pub(crate) fn has_depth(t: OptionDepthStencil) -> bool
-    ensures { result ≡ has_depth t }
-{
-    match t {
-        OptionDepthStencil::None => false,
-        OptionDepthStencil::Some(_) => true,
-    }
-}
-
-pub(crate) fn attach_depth(t: OptionDepthStencil) -> Command
+pub(crate) fn attach_depth(t: Option<DepthStencilAttachment>) -> Command
     ensures { result ≡ attach_depth_command t }
 {
-    match t {
-        OptionDepthStencil::None => Command::PopDebugGroup,
-        OptionDepthStencil::Some(d) => bind_depth(d),
-    }
+    t.map_or(Command::PopDebugGroup, bind_depth)
 }
 
 // Bit 8 of the invalidation set.
-pub(crate) fn invalid_depth(t: OptionDepthStencil) -> bool
+pub(crate) fn invalid_depth(t: Option<DepthStencilAttachment>) -> bool
     ensures { result ≡ invalid_depth t }
 {
-    match t {
-        OptionDepthStencil::None => false,
-        OptionDepthStencil::Some(d) => {
-            let view = d.view;
-            mask::test(view.aspects, 1) & mask::test(d.depth_ops, DISCARD)
-        }
-    }
+    t.is_some_and(|d| mask::test(d.view.aspects, 1) & mask::test(d.depth_ops, DISCARD))
 }
 
 // Bit 9.
-pub(crate) fn invalid_stencil(t: OptionDepthStencil) -> bool
+pub(crate) fn invalid_stencil(t: Option<DepthStencilAttachment>) -> bool
     ensures { result ≡ invalid_stencil t }
 {
-    match t {
-        OptionDepthStencil::None => false,
-        OptionDepthStencil::Some(d) => {
-            let view = d.view;
-            mask::test(view.aspects, 2) & mask::test(d.stencil_ops, DISCARD)
-        }
-    }
+    t.is_some_and(|d| mask::test(d.view.aspects, 2) & mask::test(d.stencil_ops, DISCARD))
 }
 
 // Whether depth or stencil records a clear.
-pub(crate) fn clears_depth(t: OptionDepthStencil) -> bool
+pub(crate) fn clears_depth(t: Option<DepthStencilAttachment>) -> bool
     ensures { result ≡ clears_depth t }
 {
-    match t {
-        OptionDepthStencil::None => false,
-        OptionDepthStencil::Some(d) => mask::test(d.depth_ops, CLEAR)
-            | mask::test(d.stencil_ops, CLEAR),
-    }
+    t.is_some_and(|d| mask::test(d.depth_ops, CLEAR) | mask::test(d.stencil_ops, CLEAR))
 }
 
 fn clear_both(depth: bool, stencil: bool, d: DepthStencilAttachment) -> Command
@@ -104,25 +75,22 @@ fn clear_both(depth: bool, stencil: bool, d: DepthStencilAttachment) -> Command
         } else {
             Command::ClearDepth(d.clear_depth)
         }
+    } else if stencil {
+        Command::ClearStencil(d.clear_stencil)
     } else {
-        if stencil {
-            Command::ClearStencil(d.clear_stencil)
-        } else {
-            Command::PopDebugGroup
-        }
+        Command::PopDebugGroup
     }
 }
 
 // The clear of depth and stencil.
-pub(crate) fn clear_depth(t: OptionDepthStencil) -> Command
+pub(crate) fn clear_depth(t: Option<DepthStencilAttachment>) -> Command
     ensures { result ≡ clear_depth_command t }
 {
-    match t {
-        OptionDepthStencil::None => Command::PopDebugGroup,
-        OptionDepthStencil::Some(d) => {
-            let depth = mask::test(d.depth_ops, CLEAR);
-            let stencil = mask::test(d.stencil_ops, CLEAR);
-            clear_both(depth, stencil, d)
-        }
-    }
+    t.map_or(Command::PopDebugGroup, |d| {
+        clear_both(
+            mask::test(d.depth_ops, CLEAR),
+            mask::test(d.stencil_ops, CLEAR),
+            d,
+        )
+    })
 }

@@ -9,25 +9,19 @@ ghost use Rattle.pass.specs.Places.{no_command};
 
 use bindings::group::one_if;
 use records::check::within;
-use records::command::{Command, OptionU32, RangeU32};
+use records::command::{Command, RangeU32};
 
-pub(crate) fn stamp_count(q: OptionU32) -> u32
+pub(crate) fn stamp_count(q: Option<u32>) -> u32
     ensures { (result ≡ length (timestamp q)) × (result ≤ 1) }
 {
-    match q {
-        OptionU32::None => 0,
-        OptionU32::Some(_) => 1,
-    }
+    q.is_some() as u32
 }
 
 // The timestamp of a query, where there is one.
-pub(crate) fn stamp_command(q: OptionU32) -> Command
+pub(crate) fn stamp_command(q: Option<u32>) -> Command
     ensures { result ≡ get_or (timestamp q) 0 no_command }
 {
-    match q {
-        OptionU32::None => Command::PopDebugGroup,
-        OptionU32::Some(n) => Command::TimestampQuery(n),
-    }
+    q.map_or(Command::PopDebugGroup, |n| Command::TimestampQuery(n))
 }
 
 // The label's bytes from the place at on.
@@ -44,14 +38,14 @@ fn push_label(at: usize, bytes: usize) -> Command
 }
 
 // How many there are.
-pub fn opening_count(query: OptionU32, label: bool) -> u32
+pub fn opening_count(query: Option<u32>, label: bool) -> u32
     ensures { (result ≡ length (timestamp query) + digit_of label) × (result ≤ 2) × ((bytes : Lent) (at : ℕ) → result ≡ length (timestamp query ++ push_label (record { present = label; bytes = bytes }) at)) }
 {
     stamp_count(query) + one_if(label)
 }
 
 // Command number k of them.
-pub fn opening_at(query: OptionU32, label: bool, at: usize, bytes: usize, k: u32) -> Command
+pub fn opening_at(query: Option<u32>, label: bool, at: usize, bytes: usize, k: u32) -> Command
     ensures { (run : List ℕ) → at + bytes < 2 ^ 32 → Stands result k (timestamp query ++ push_label (record { present = label; bytes = record { run = run; count = bytes } }) at) }
 {
     if k < stamp_count(query) {

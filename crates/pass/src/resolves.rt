@@ -1,42 +1,33 @@
 // The resolves that a pass leaves for its end. The contracts cite specs/Resolves.antt.
-ghost use Rattle.std.specs.Prelude.{◌<◌, ◌≡◌};
+ghost use Rattle.std.specs.Prelude.{◌<◌, ◌≡◌, Bool, cond, Some, None};
+ghost use Rattle.records.specs.declared.state.ResolveDesc.{ResolveDesc};
 ghost use Rattle.pass.specs.Render.{places_of, resolves_from};
-ghost use Rattle.pass.specs.Places.{is_resolved, resolve_desc};
 ghost use Rattle.pass.specs.Resolves.{laid_over, append_if};
 
-use crate::place::{is_resolved, resolve_desc};
+use crate::place::resolve_of;
 use crate::survey::place_at;
 use records::limits::MAX_COLOR_ATTACHMENTS;
-use records::pass::{OptionColorAttachment, RenderPassDescriptor};
+use records::pass::RenderPassDescriptor;
 use records::pipeline::PrivateCapabilities;
 use records::state::{PassState, ResolveDesc};
 
-// The first `count` of `at`.
+// The first `count` of `at`: no heap, so the array stands beside its count.
 #[derive(Clone, Copy)]
 pub struct Resolves {
     pub at: [ResolveDesc; MAX_COLOR_ATTACHMENTS],
     pub count: usize,
 }
 
-fn append_resolve(
-    caps: PrivateCapabilities,
-    i: u32,
-    p: OptionColorAttachment,
-    r: Resolves,
-) -> Resolves
+fn append_resolve(resolve: Option<ResolveDesc>, r: Resolves) -> Resolves
     requires { r.count < 8 }
-    ensures { result ≡ append_if (is_resolved caps i p) (resolve_desc i p) r }
+    ensures { (b : Bool) (x : ResolveDesc) → resolve ≡ cond b (Some x) None → result ≡ append_if b x r }
 {
-    if is_resolved(caps, i, p) {
-        let desc = resolve_desc(i, p);
-        let n = r.count;
-        let mut next = r;
-        next.at[n] = desc;
-        next.count = n + 1;
-        next
-    } else {
-        r
+    let mut next = r;
+    if let Some(desc) = resolve {
+        next.at[r.count] = desc;
+        next.count = r.count + 1;
     }
+    next
 }
 
 // The resolves of the places, over those that the state has.
@@ -49,11 +40,8 @@ pub(crate) fn lay_resolves(
 {
     let old = s.resolves;
     let mut r = Resolves { at: old, count: 0 };
-    let mut i: u32 = 0;
-    while i < 8 {
-        let p = place_at(d, i);
-        r = append_resolve(caps, i, p, r);
-        i = i + 1;
+    for i in 0..8 {
+        r = append_resolve(resolve_of(caps, i, place_at(&d, i)), r);
     }
     r
 }

@@ -1,79 +1,33 @@
-// The eight colour places of a pass gone through once. The contracts cite specs/Survey.antt.
+// The eight colour places of a pass, and which of them have an attachment and record a clear. The
+// contracts cite specs/Places.antt and specs/Plan.antt.
 ghost use Rattle.std.specs.Prelude.{◌≡◌};
 ghost use Rattle.pass.specs.Places.{place_at};
-ghost use Rattle.pass.specs.Survey.{survey_one, survey_of};
+ghost use Rattle.pass.specs.Plan.{filled_mask, cleared_mask};
 
-use crate::clear::{clears_depth_kind, is_cleared};
-use crate::place::{filled_external, invalid_color, is_filled};
-use records::check::within;
-use records::limits::MAX_COLOR_ATTACHMENTS;
-use records::pass::{OptionColorAttachment, RenderPassDescriptor};
-use records::pipeline::PrivateCapabilities;
-
-// Which places are filled, record a clear, are invalidated at the end, are an external framebuffer,
-// and clear a depth kind as colour.
-#[derive(Clone, Copy)]
-pub struct PlaceMasks {
-    pub filled: u32,
-    pub cleared: u32,
-    pub invalid: u32,
-    pub external: u32,
-    pub wrong: u32,
-}
+use crate::clear::is_cleared;
+use mask::mask_where;
+use records::check::counted;
+use records::pass::{ColorAttachment, RenderPassDescriptor};
 
 // Place i; past the count it is empty.
-pub(crate) fn place_at(d: RenderPassDescriptor, i: u32) -> OptionColorAttachment
-    ensures { result ≡ place_at d i }
+pub(crate) fn place_at(d: &RenderPassDescriptor, i: u32) -> Option<ColorAttachment>
+    ensures { result ≡ place_at d.now i }
 {
-    let at = i as usize;
-    let n = within(d.color_attachment_count, MAX_COLOR_ATTACHMENTS);
-    if at < n {
-        let places = d.color_attachments;
-        let p = places[at];
-        let attachment = p.attachment;
-        attachment
-    } else {
-        OptionColorAttachment::None
-    }
+    counted(&d.color_attachments, d.color_attachment_count)
+        .get(i as usize)?
+        .attachment
 }
 
-fn survey_place(
-    caps: PrivateCapabilities,
-    i: u32,
-    p: OptionColorAttachment,
-    s: PlaceMasks,
-) -> PlaceMasks
-    ensures { result ≡ survey_one caps i p s }
+// The places that have an attachment.
+pub(crate) fn filled_mask(d: &RenderPassDescriptor) -> u32
+    ensures { result ≡ filled_mask d.now }
 {
-    let filled = is_filled(p);
-    let cleared = is_cleared(p);
-    let invalid = invalid_color(caps, i, p);
-    let external = filled_external(p);
-    let wrong = clears_depth_kind(p);
-    PlaceMasks {
-        filled: mask::set_if(s.filled, i, filled),
-        cleared: mask::set_if(s.cleared, i, cleared),
-        invalid: mask::set_if(s.invalid, i, invalid),
-        external: mask::set_if(s.external, i, external),
-        wrong: mask::set_if(s.wrong, i, wrong),
-    }
+    mask_where(8, |i| place_at(d, i).is_some())
 }
 
-pub(crate) fn survey(caps: PrivateCapabilities, d: RenderPassDescriptor) -> PlaceMasks
-    ensures { result ≡ survey_of caps d 8 }
+// The places that record a clear.
+pub(crate) fn cleared_mask(d: &RenderPassDescriptor) -> u32
+    ensures { result ≡ cleared_mask d.now }
 {
-    let mut s = PlaceMasks {
-        filled: 0,
-        cleared: 0,
-        invalid: 0,
-        external: 0,
-        wrong: 0,
-    };
-    let mut i: u32 = 0;
-    while i < 8 {
-        let p = place_at(d, i);
-        s = survey_place(caps, i, p, s);
-        i = i + 1;
-    }
-    s
+    mask_where(8, |i| is_cleared(place_at(d, i)))
 }

@@ -9,9 +9,9 @@ use lib.ListN.{length, get_or, replicate, length-replicate}
 use Rattle.records.specs.Outcome.{accepted}
 use Rattle.records.specs.declared.command.Command.{Command}
 use Rattle.records.specs.declared.command.Command.TheVariants.{PopDebugGroup}
-use Rattle.records.specs.declared.command.OptionU32.{OptionU32}
+use Rattle.std.specs.Prelude.{Option}
+use Rattle.records.specs.declared.pass.TimestampWrites.{TimestampWrites}
 use Rattle.records.specs.declared.outcome.Conditions.{Conditions}
-use Rattle.records.specs.declared.pass.OptionTimestampWrites.{OptionTimestampWrites}
 use Rattle.records.specs.declared.state.PassState.{PassState}
 use Rattle.records.specs.declared.state.Phase.TheVariants.{Compute}
 use Rattle.records.specs.declared.state.State.{State}
@@ -28,7 +28,7 @@ use Rattle.pass_calls.specs.BegunCompute.{compute_commands, compute_at, ComputeA
 use Rattle.pass_calls.proofs.Labels.{label-long, label-bytes, push-same}
 use Rattle.pass_calls.proofs.Begun.{not_short, few_bytes, marked-is, begun, some-begun}
 
-module _ (s : State) (t : OptionTimestampWrites) (set : Lent) (room bytes len : ℕ) (has : Bool) (count : ℕ) where
+module _ (s : State) (t : Option TimestampWrites) (set : Lent) (room bytes len : ℕ) (has : Bool) (count : ℕ) where
   -- its conditions, of a label of so many bytes
   abbrev pub asks : ℕ → Conditions
   asks l =
@@ -48,7 +48,7 @@ module _ (s : State) (t : OptionTimestampWrites) (set : Lent) (room bytes len : 
   abbrev bs : List ℕ → List ℕ
   bs run = label_bytes (label_of has run count)
 
-  module _ (m : Marked) (q : OptionU32) (c : Conditions) (n size : ℕ) (pass : PassState) (asked : c ≡ asks len) (stamped : timestamp q ≡ begin_timestamp set t)
+  module _ (m : Marked) (q : Option ℕ) (c : Conditions) (n size : ℕ) (pass : PassState) (asked : c ≡ asks len) (stamped : timestamp q ≡ begin_timestamp set t)
       (counted : (by : Lent) (at : ℕ) → n ≡ length (timestamp q ++ push_label (record { present = has; bytes = by }) at)) (few : n < 2 ^ 32) (sized : size ≡ cond has (min count len) 0)
       (passed : (by : Lent) → pass ≡ begin_compute_pass_state (record { present = has; bytes = by }) (end_timestamp set t s.pass.end_of_pass_timestamp) s.pass)
       (k : MarkedOf room bytes s c Compute n size pass m) where

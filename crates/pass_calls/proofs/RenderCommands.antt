@@ -6,7 +6,7 @@ use mathlib.Core.Path.{◌≡◌, sym, ap, ◌∙◌}
 use lib.Dec.{ltb}
 use lib.ListN.{length}
 use Rattle.records.specs.declared.command.Command.{Command}
-use Rattle.records.specs.declared.command.OptionU32.{OptionU32}
+use Rattle.std.specs.Prelude.{Option}
 use Rattle.records.specs.declared.pass.RenderPassDescriptor.{RenderPassDescriptor}
 use Rattle.records.specs.declared.pipeline.PrivateCapabilities.{PrivateCapabilities}
 use Rattle.pass.specs.declared.begin.BeginPlan.{BeginPlan}
@@ -23,7 +23,7 @@ use Rattle.pass_calls.proofs.Labels.{push-same}
 pub render-is : (b : RenderBegun) (k : RenderSound b) → begin_render_commands b.caps b.d (label_of b.plan.label [] b.size) k.set b.from ≡ render_commands b
 render-is b k =
     begin-is b.caps b.d b.plan.label k.set (record { run = []; count = b.size }) b.from
-    ∙ ap (λ (q : OptionU32). (timestamp q ++ push_label (label_of b.plan.label [] b.size) b.from) ++ framing b.caps b.d) (sym (ap (λ (x : BeginPlan). x.query) k.planned))
+    ∙ ap (λ (q : Option ℕ). (timestamp q ++ push_label (label_of b.plan.label [] b.size) b.from) ++ framing b.caps b.d) (sym (ap (λ (x : BeginPlan). x.query) k.planned))
 
 -- the batch's are the call's
 pub render-same : (caps : PrivateCapabilities) (d : RenderPassDescriptor) (p : BeginPlan) (label : Bool) (set : Lent) (run : List ℕ) (count size from at n : ℕ) → p ≡ begin_plan caps d label set

@@ -3,15 +3,17 @@
 ghost use Rattle.calls.specs.Call.{begin_render_pass, begin_compute_pass};
 ghost use Rattle.calls.specs.Did.{Marks};
 
-use crate::begun_compute::{
-    compute_answer, plan_begin_compute, record_compute, write_compute_label,
-};
-use crate::begun_render::{plan_begin_render, record_render, render_answer, write_render_label};
+use crate::begun_compute::{compute_answer, plan_begin_compute};
+use crate::begun_render::{plan_begin_render, render_answer};
+use crate::marked::copy_label;
+use calls::batch::record;
 use records::command::Record;
-use records::pass::{OptionTimestampWrites, RenderPassDescriptor};
+use records::pass::{RenderPassDescriptor, TimestampWrites};
 use records::pipeline::PrivateCapabilities;
 use records::state::{Answer, State};
 
+// Flag, run and count, no `Option<&[u8]>`: a count above its run is refused with no label too
+// (`label_short`).
 pub fn begin_render_pass(
     list: &mut [Record],
     bytes: &mut [u8],
@@ -38,8 +40,8 @@ pub fn begin_render_pass(
         s,
         d,
     );
-    write_render_label(bytes, label, plan);
-    record_render(list, plan);
+    copy_label(bytes, label, plan.put, plan.size);
+    record(list, &plan.batch);
     render_answer(plan, s)
 }
 
@@ -53,7 +55,7 @@ pub fn begin_compute_pass(
     set_count: usize,
     caps: PrivateCapabilities,
     s: State,
-    t: OptionTimestampWrites,
+    t: Option<TimestampWrites>,
 ) -> Answer
     ensures { Marks caps s (begin_compute_pass t (record { present = has_label; bytes = record { run = label.now; count = label_count } }) (record { run = set.now; count = set_count })) list.old bytes.old result list.new bytes.new }
 {
@@ -69,7 +71,7 @@ pub fn begin_compute_pass(
         s,
         t,
     );
-    write_compute_label(bytes, label, plan);
-    record_compute(list, plan);
+    copy_label(bytes, label, plan.put, plan.size);
+    record(list, &plan.batch);
     compute_answer(plan, s)
 }

@@ -1,21 +1,21 @@
-// The beginning of a render pass: the plan, and how it is written into the list and the marker
+// The beginning of a render pass: the plan, its batch, and how the label is written into the marker
 // bytes. The contracts cite specs/BegunRender.antt.
-ghost use Rattle.std.specs.Prelude.{ℕ, ◌+◌, ◌<◌, ◌≤◌, ◌≡◌, length, get_or};
+ghost use Rattle.std.specs.Prelude.{◌≡◌, length, get_or};
 ghost use Rattle.walks.specs.Fill.{filled};
 ghost use Rattle.pass.specs.Marks.{Label};
-ghost use Rattle.calls.specs.Did.{record_of};
 ghost use Rattle.calls.specs.Step.{begin_render_meaning};
 ghost use Rattle.pass_calls.specs.Marked.{LabelFits};
 ghost use Rattle.pass_calls.specs.BegunRender.{RenderAllowed, render_at, RenderOf, render_answer};
 
-use crate::marked::{begin_asks, copy_label, label_short, label_size, plan_mark};
+use crate::marked::{begin_asks, label_short, label_size, plan_mark};
+use calls::batch::Batch;
 use calls::judge::past_u32;
 use calls::parts::{with_pass, with_progress};
 use calls::phase::in_open;
 use pass::begin::{BeginPlan, begin_command_at, begin_plan};
 use pass::marks::{over_run, timestamps_out};
 use pass::render::{begin_render_pass, pass_wrong_kind};
-use records::command::{Command, Record};
+use records::command::Command;
 use records::outcome::Outcome;
 use records::pass::RenderPassDescriptor;
 use records::pipeline::PrivateCapabilities;
@@ -44,44 +44,29 @@ pub struct RenderPlan {
     pub size: usize,
 }
 
-pub fn render_command(batch: RenderBegun, i: usize) -> Command
-    requires { RenderAllowed batch i }
-    ensures { result ≡ render_at batch i }
-{
-    let plan = batch.plan;
-    let caps = batch.caps;
-    let d = batch.d;
-    begin_command_at(plan, caps, d, batch.from, batch.size, i as u32)
-}
+impl Batch for RenderBegun {
+    ghost place_of = { λ b. b.at };
 
-fn fill_render(list: &mut [Record], at: usize, n: usize, batch: RenderBegun)
-    requires { (at + n ≤ length list.old) × ((i : ℕ) → i < n → RenderAllowed batch i) }
-    ensures { list.new ≡ filled (λ i. record_of (render_at batch i)) list.old at n }
-{
-    let mut i: usize = 0;
-    while i < n {
-        let c = render_command(batch, i);
-        list[at + i] = Record { command: c };
-        i += 1;
+    ghost count_of = { λ b. b.n };
+
+    ghost Allowed = { RenderAllowed };
+
+    ghost command_at = { render_at };
+
+    fn at(&self) -> usize {
+        self.at
     }
-}
 
-fn render_batch(plan: RenderPlan) -> RenderBegun
-    ensures { result ≡ plan.batch }
-{
-    plan.batch
-}
+    fn count(&self) -> usize {
+        self.n
+    }
 
-fn render_at(batch: RenderBegun) -> usize
-    ensures { result ≡ batch.at }
-{
-    batch.at
-}
-
-fn render_count(batch: RenderBegun) -> usize
-    ensures { result ≡ batch.n }
-{
-    batch.n
+    fn command(&self, i: usize) -> Command {
+        let plan = self.plan;
+        let caps = self.caps;
+        let d = self.d;
+        begin_command_at(plan, caps, d, self.from, self.size, i as u32)
+    }
 }
 
 pub fn render_answer(plan: RenderPlan, s: State) -> Answer
@@ -91,23 +76,6 @@ pub fn render_answer(plan: RenderPlan, s: State) -> Answer
     let moved = with_progress(s, plan.progress);
     let state = with_pass(moved, plan.pass);
     Answer { outcome, state }
-}
-
-pub(crate) fn record_render(list: &mut [Record], plan: RenderPlan)
-    requires { (plan.batch.at + plan.batch.n ≤ length list.old) × ((i : ℕ) → i < plan.batch.n → RenderAllowed plan.batch i) }
-    ensures { list.new ≡ filled (λ i. record_of (render_at plan.batch i)) list.old plan.batch.at plan.batch.n }
-{
-    let batch = render_batch(plan);
-    let at = render_at(batch);
-    let n = render_count(batch);
-    fill_render(list, at, n, batch);
-}
-
-pub fn write_render_label(bytes: &mut [u8], label: &[u8], plan: RenderPlan)
-    requires { LabelFits label.now plan.put plan.size (length bytes.old) }
-    ensures { bytes.new ≡ filled (λ i. get_or label.now i 0) bytes.old plan.put plan.size }
-{
-    copy_label(bytes, label, plan.put, plan.size);
 }
 
 fn begun_count(plan: BeginPlan) -> u32

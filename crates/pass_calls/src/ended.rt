@@ -1,23 +1,21 @@
-// The end of a pass: the plan, and how it is written into the list. The contracts cite
-// specs/Ended.antt.
-ghost use Rattle.std.specs.Prelude.{ℕ, ◌+◌, ◌<◌, ◌≤◌, ◌≡◌, cond, length};
-ghost use Rattle.walks.specs.Fill.{filled};
-ghost use Rattle.calls.specs.Did.{record_of};
+// The end of a pass: the plan and its batch. The contracts cite specs/Ended.antt.
+ghost use Rattle.std.specs.Prelude.{◌≡◌, cond, length};
 ghost use Rattle.calls.specs.Meaning.{in_render, in_compute};
 ghost use Rattle.pass_calls.specs.Ended.{end_of, ending, EndAllowed, ended_at, EndOf, end_answer};
 
-use crate::taken::{taken_fixed, taken_pass, taken_vertex};
-use calls::judge::{commands_only, judge, list_rooms, spot_of};
+use calls::batch::Batch;
+use calls::judge::{commands_only, judge, list_rooms, spot_of, taken};
 use calls::parts::{with_fixed, with_pass, with_progress, with_vertex};
 use calls::phase::{in_compute, in_phase, in_render};
 use pass::end::{end_command_at, end_compute_at, end_compute_count, end_render_count};
 use records::check::broken_limits;
-use records::command::{Command, Record};
+use records::command::Command;
 use records::outcome::Outcome;
 use records::state::{Answer, FixedState, PassState, Phase, Progress, State, VertexState};
 
 // Where the commands go and how many they are, which kind of pass ends, and the parts of the state
 // that they are worked out from.
+// `render` is a bool: `ending` and `end_of` of specs/Ended.antt take it so.
 #[derive(Clone, Copy)]
 pub struct Ended {
     pub at: usize,
@@ -60,48 +58,33 @@ fn ends_in(render: bool, phase: Phase) -> bool
     }
 }
 
-pub fn ended_command(batch: Ended, i: usize) -> Command
-    requires { EndAllowed batch i }
-    ensures { result ≡ ended_at batch i }
-{
-    let pass = batch.pass;
-    let vertex = batch.vertex;
-    let k = i as u32;
-    if batch.render {
-        end_command_at(pass, vertex, k)
-    } else {
-        end_compute_at(pass, k)
+impl Batch for Ended {
+    ghost place_of = { λ b. b.at };
+
+    ghost count_of = { λ b. b.n };
+
+    ghost Allowed = { EndAllowed };
+
+    ghost command_at = { ended_at };
+
+    fn at(&self) -> usize {
+        self.at
     }
-}
 
-fn fill_ended(list: &mut [Record], at: usize, n: usize, batch: Ended)
-    requires { (at + n ≤ length list.old) × ((i : ℕ) → i < n → EndAllowed batch i) }
-    ensures { list.new ≡ filled (λ i. record_of (ended_at batch i)) list.old at n }
-{
-    let mut i: usize = 0;
-    while i < n {
-        let c = ended_command(batch, i);
-        list[at + i] = Record { command: c };
-        i += 1;
+    fn count(&self) -> usize {
+        self.n
     }
-}
 
-fn ended_batch(plan: EndPlan) -> Ended
-    ensures { result ≡ plan.batch }
-{
-    plan.batch
-}
-
-fn ended_at(batch: Ended) -> usize
-    ensures { result ≡ batch.at }
-{
-    batch.at
-}
-
-fn ended_count(batch: Ended) -> usize
-    ensures { result ≡ batch.n }
-{
-    batch.n
+    fn command(&self, i: usize) -> Command {
+        let pass = self.pass;
+        let vertex = self.vertex;
+        let k = i as u32;
+        if self.render {
+            end_command_at(pass, vertex, k)
+        } else {
+            end_compute_at(pass, k)
+        }
+    }
 }
 
 pub fn end_answer(plan: EndPlan, s: State) -> Answer
@@ -113,16 +96,6 @@ pub fn end_answer(plan: EndPlan, s: State) -> Answer
     let settled = with_fixed(passed, plan.fixed);
     let state = with_vertex(settled, plan.vertex);
     Answer { outcome, state }
-}
-
-pub(crate) fn record_ended(list: &mut [Record], plan: EndPlan)
-    requires { (plan.batch.at + plan.batch.n ≤ length list.old) × ((i : ℕ) → i < plan.batch.n → EndAllowed plan.batch i) }
-    ensures { list.new ≡ filled (λ i. record_of (ended_at plan.batch i)) list.old plan.batch.at plan.batch.n }
-{
-    let batch = ended_batch(plan);
-    let at = ended_at(batch);
-    let n = ended_count(batch);
-    fill_ended(list, at, n, batch);
 }
 
 // The end of a pass of this kind, which leaves these three parts.
@@ -150,9 +123,9 @@ pub(crate) fn plan_end(
     let place = spot_of(v.ok, p.commands, n);
     let outcome = v.outcome;
     let progress = v.progress;
-    let vertex = taken_vertex(v.ok, vertex, old_vertex);
-    let fixed = taken_fixed(v.ok, fixed, old_fixed);
-    let pass = taken_pass(v.ok, pass, old_pass);
+    let vertex = taken(v.ok, vertex, old_vertex);
+    let fixed = taken(v.ok, fixed, old_fixed);
+    let pass = taken(v.ok, pass, old_pass);
     EndPlan {
         progress,
         vertex,

@@ -7,7 +7,8 @@ ghost use Rattle.calls.specs.Parts.{end_vertex, end_fixed};
 ghost use Rattle.calls.specs.Step.{end_render_meaning, end_compute_meaning};
 ghost use Rattle.pass_calls.specs.Ended.{EndOf};
 
-use crate::ended::{EndPlan, end_answer, plan_end, record_ended};
+use crate::ended::{EndPlan, end_answer, plan_end};
+use calls::batch::record;
 use names::gl::PrimitiveState;
 use records::command::Record;
 use records::limits::MAX_VERTEX_BUFFERS;
@@ -30,21 +31,15 @@ fn end_vertex(v: VertexState) -> VertexState
 fn end_fixed(f: FixedState) -> FixedState
     ensures { result ≡ end_fixed f }
 {
-    let color_targets = f.color_targets;
-    let stencil = f.stencil;
-    let depth_bias = f.depth_bias;
-    let primitive = PrimitiveState::new();
     FixedState {
-        primitive,
-        color_targets,
+        primitive: PrimitiveState::new(),
         color_target_count: 0,
-        stencil,
-        depth_bias,
-        alpha_to_coverage_enabled: f.alpha_to_coverage_enabled,
-        clip_distance_count: f.clip_distance_count,
+        ..f
     }
 }
 
+// List, board and state are parameters of each call (state by value, the list lent): a struct would
+// ask callers for another type.
 pub fn plan_end_render_pass(room: usize, caps: PrivateCapabilities, s: State) -> EndPlan
     ensures { EndOf room s (end_render_meaning s) result }
 {
@@ -61,7 +56,7 @@ pub fn end_render_pass(list: &mut [Record], caps: PrivateCapabilities, s: State)
     ensures { Lists caps s end_render_pass list.old result list.new }
 {
     let plan = plan_end_render_pass(list.len(), caps, s);
-    record_ended(list, plan);
+    record(list, &plan.batch);
     end_answer(plan, s)
 }
 
@@ -79,6 +74,6 @@ pub fn end_compute_pass(list: &mut [Record], caps: PrivateCapabilities, s: State
     ensures { Lists caps s end_compute_pass list.old result list.new }
 {
     let plan = plan_end_compute_pass(list.len(), caps, s);
-    record_ended(list, plan);
+    record(list, &plan.batch);
     end_answer(plan, s)
 }

@@ -6,5 +6,4 @@ pub mod begun_compute;
 pub mod begun_render;
 pub mod ended;
 pub mod ends;
-mod marked;
-mod taken;
+pub mod marked;

@@ -4,8 +4,8 @@ ghost use Rattle.std.specs.Prelude.{min, ◌≡◌, cond, not, false as no, ltb,
 ghost use Rattle.walks.specs.Fill.{filled};
 ghost use Rattle.pass_calls.specs.Marked.{MarkedOf, LabelFits};
 
-use crate::taken::taken_pass;
-use calls::judge::{Counts, byte_rooms, judge, spot_of};
+use calls::judge::{Counts, byte_rooms, judge, spot_of, taken};
+use calls::phase::in_phase;
 use records::check::{broken_limits, within};
 use records::outcome::{Conditions, Outcome};
 use records::state::{PassState, Phase, Progress, State};
@@ -50,13 +50,12 @@ pub(crate) fn begin_asks(
     ensures { result ≡ record { phase = not allowed; many = many; range = range; absent = no; kind = kind; sum = sum; room = short } }
 {
     Conditions {
-        phase: !allowed,
         many,
         range,
-        absent: false,
         kind,
         sum,
         room: short,
+        ..in_phase(allowed)
     }
 }
 
@@ -87,7 +86,7 @@ pub(crate) fn plan_mark(
     let mark = spot_of(v.ok, p.bytes, size);
     let outcome = v.outcome;
     let progress = v.progress;
-    let pass = taken_pass(v.ok, pass, old);
+    let pass = taken(v.ok, pass, old);
     Marked {
         progress,
         pass,
@@ -100,13 +99,9 @@ pub(crate) fn plan_mark(
 }
 
 // The label's first bytes, from the place `at` on.
-pub(crate) fn copy_label(bytes: &mut [u8], label: &[u8], at: usize, n: usize)
+pub fn copy_label(bytes: &mut [u8], label: &[u8], at: usize, n: usize)
     requires { LabelFits label.now at n (length bytes.old) }
     ensures { bytes.new ≡ filled (λ i. get_or label.now i 0) bytes.old at n }
 {
-    let mut i: usize = 0;
-    while i < n {
-        bytes[at + i] = label[i];
-        i += 1;
-    }
+    bytes[at..at + n].copy_from_slice(&label[..n]);
 }

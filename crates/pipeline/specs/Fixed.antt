@@ -1,5 +1,5 @@
 -- The fixed part of `set_render_pipeline`: primitive, depth bias, depth, stencil, alpha to coverage, targets, clip distances. Definitions only.
-use Rattle.std.specs.Prelude.{ℕ, suc, ◌+◌, Bool, true, false, cond, not, ◌&&◌, List, [], ◌∷◌, ◌++◌, ltb, eqb, take}
+use Rattle.std.specs.Prelude.{ℕ, suc, ◌+◌, Bool, true, false, cond, not, ◌&&◌, List, [], ◌∷◌, ◌++◌, ltb, eqb, take, Option, None, Some}
 use Rattle.names.specs.Gl.{GL_FRONT, GL_BACK, GL_FRONT_AND_BACK}
 use Rattle.names.specs.Maps.{primitive_state}
 use Rattle.names.specs.declared.gl.StencilSide.{StencilSide}
@@ -8,12 +8,8 @@ use Rattle.records.specs.Start.{start_target}
 use Rattle.records.specs.Same.{same_bool, same_primitive, same_depth_bias, same_color_target, same_stencil_ops, same_stencil_func}
 use Rattle.records.specs.declared.command.Command.{Command}
 use Rattle.records.specs.declared.command.Command.TheVariants.{SetPrimitive, SetDepthBias, SetDepth, SetStencilFunc, SetStencilOps, ConfigureDepthStencil, SetAlphaToCoverage, SetColorTarget, SetClipDistances}
-use Rattle.records.specs.declared.command.OptionU32.TheVariants.{None, Some}
+use Rattle.records.specs.declared.command.DepthState.{DepthState}
 use Rattle.records.specs.declared.command.ColorTargetDesc.{ColorTargetDesc}
-use Rattle.records.specs.declared.pipeline.OptionDepthState.{OptionDepthState}
-use Rattle.records.specs.declared.pipeline.OptionDepthState.TheVariants as depth
-use Rattle.records.specs.declared.pipeline.OptionStencilState.{OptionStencilState}
-use Rattle.records.specs.declared.pipeline.OptionStencilState.TheVariants as stencil
 use Rattle.records.specs.declared.pipeline.RenderPipeline.{RenderPipeline}
 use Rattle.records.specs.declared.state.FixedState.{FixedState}
 
@@ -38,30 +34,30 @@ stencil_ops s =
     cond (same_stencil_ops s.front.ops s.back.ops && eqb s.front.mask_write s.back.mask_write) (stencil_op GL_FRONT_AND_BACK s.front ∷ [])
     (stencil_op GL_FRONT s.front ∷ stencil_op GL_BACK s.back ∷ [])
 
-abbrev pub depth_commands : OptionDepthState → List Command
-depth_commands depth.None = []
-depth_commands (depth.Some d) = SetDepth d ∷ []
+abbrev pub depth_commands : Option DepthState → List Command
+depth_commands None = []
+depth_commands (Some d) = SetDepth d ∷ []
 
-abbrev pub stencil_commands : OptionStencilState → List Command
-stencil_commands stencil.None = []
-stencil_commands (stencil.Some s) = stencil_funcs s ++ stencil_ops s
+abbrev pub stencil_commands : Option StencilState → List Command
+stencil_commands None = []
+stencil_commands (Some s) = stencil_funcs s ++ stencil_ops s
 
 -- the aspects: depth 2, stencil 4
-abbrev pub depth_aspect : OptionDepthState → ℕ
-depth_aspect depth.None = 0
-depth_aspect (depth.Some d) = 2
+abbrev pub depth_aspect : Option DepthState → ℕ
+depth_aspect None = 0
+depth_aspect (Some d) = 2
 
-abbrev pub stencil_aspect : OptionStencilState → ℕ
-stencil_aspect stencil.None = 0
-stencil_aspect (stencil.Some s) = 4
+abbrev pub stencil_aspect : Option StencilState → ℕ
+stencil_aspect None = 0
+stencil_aspect (Some s) = 4
 
 abbrev pub aspects_of : RenderPipeline → ℕ
 aspects_of p = depth_aspect p.depth + stencil_aspect p.stencil
 
 -- "The stencil of the pipeline, reference included, replaces the state's"
-abbrev pub stencil_or : StencilState → OptionStencilState → StencilState
-stencil_or old stencil.None = old
-stencil_or old (stencil.Some s) = s
+abbrev pub stencil_or : StencilState → Option StencilState → StencilState
+stencil_or old None = old
+stencil_or old (Some s) = s
 
 -- ---- colour targets
 abbrev pub targets_in : RenderPipeline → List ColorTargetDesc

@@ -1,13 +1,11 @@
 -- `set_pipeline_inner`: what render and compute pipelines share. Definitions only.
-use Rattle.std.specs.Prelude.{ℕ, Bool, true, false, not, ◌||◌, List, ◌∷◌, leb, ltb, get_or, take}
+use Rattle.std.specs.Prelude.{ℕ, Bool, false, not, ◌||◌, List, ◌∷◌, leb, ltb, get_or, take, Option, None, is_some, unwrap_or}
 use Rattle.tables.specs.Tabulate.{tabulate}
 use Rattle.mask.specs.By.{mask_by}
 use Rattle.records.specs.Check.{some?, bad_descriptor}
 use Rattle.records.specs.Same.{same_option_u32}
 use Rattle.records.specs.declared.command.Command.{Command}
 use Rattle.records.specs.declared.command.Command.TheVariants.{SetProgram}
-use Rattle.records.specs.declared.command.OptionU32.{OptionU32}
-use Rattle.records.specs.declared.command.OptionU32.TheVariants.{None, Some}
 use Rattle.records.specs.declared.command.ImmediateDesc.{ImmediateDesc}
 use Rattle.records.specs.declared.pipeline.SamplerBind.{SamplerBind}
 use Rattle.records.specs.declared.pipeline.PipelineInner.{PipelineInner}
@@ -15,19 +13,14 @@ use Rattle.records.specs.declared.state.BindState.{BindState}
 use Rattle.records.specs.declared.state.ImmediateState.{ImmediateState}
 use Rattle.bindings.specs.Units.{unit_at, number_at, sampler_commands}
 
-abbrev pub is_some : OptionU32 → Bool
-is_some None = false
-is_some (Some k) = true
-
-abbrev pub value_or : ℕ → OptionU32 → ℕ
-value_or d None = d
-value_or d (Some k) = k
+abbrev pub value_or : ℕ → Option ℕ → ℕ
+value_or d k = unwrap_or k d
 
 abbrev pub no_bind : SamplerBind
 no_bind = record { sampler_index = None }
 
 -- the sampler number that the pipeline has for unit u, or none
-abbrev pub map_at : PipelineInner → ℕ → OptionU32
+abbrev pub map_at : PipelineInner → ℕ → Option ℕ
 map_at p u = (get_or p.sampler_map u no_bind).sampler_index
 
 -- the units whose sampler number the pipeline changes

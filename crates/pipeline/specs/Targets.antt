@@ -1,14 +1,13 @@
 -- The colour targets by place. Assumes nothing.
 -- `commands-are`: of targets that are not empty, one command where all are the first, else one each. `each_long`, `each_at`: those commands.
 -- `differ`: lists of different lengths are not the same.
-use Rattle.std.specs.Prelude.{ℕ, zero, suc, ◌+◌, ◌<◌, ◌≡◌, refl, Bool, true, false, cond, ◌&&◌, List, [], ◌∷◌, length, get_or}
+use Rattle.std.specs.Prelude.{ℕ, zero, suc, ◌+◌, ◌<◌, ◌≡◌, refl, Bool, true, false, cond, ◌&&◌, List, [], ◌∷◌, length, get_or, None, Some}
 use Rattle.std.proofs.Common.{ap, ◌∙◌, not-suc-le-zero, le_of_suc-le-suc, arith}
 use Rattle.records.specs.Same.{same_color_target, itself, color-target}
 use Rattle.records.specs.Start.{start_target}
 use Rattle.records.specs.declared.command.ColorTargetDesc.{ColorTargetDesc}
 use Rattle.records.specs.declared.command.Command.{Command}
 use Rattle.records.specs.declared.command.Command.TheVariants.{SetColorTarget}
-use Rattle.records.specs.declared.command.OptionU32.TheVariants.{None, Some}
 use Rattle.records.specs.declared.pipeline.RenderPipeline.{RenderPipeline}
 use Rattle.pipeline.specs.Fixed.{targets_in, same_targets, all_same, each_target, target_commands}
 

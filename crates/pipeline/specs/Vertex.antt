@@ -1,6 +1,5 @@
 -- The vertex part of `set_render_pipeline`: attributes, slot descriptions, masks. Definitions only.
-use Rattle.std.specs.Prelude.{ℕ, Bool, true, false, cond, not, ◌&&◌, ◌||◌, List, map, ltb, eqb, get_or, take}
-use Rattle.std.proofs.Math.Option.{Option, none, some}
+use Rattle.std.specs.Prelude.{ℕ, Bool, true, false, cond, not, ◌&&◌, ◌||◌, List, map, ltb, eqb, get_or, take, Option, None, Some, is_some, unwrap_or}
 use Rattle.std.specs.Int.Bits.{bit_or}
 use Rattle.tables.specs.Tabulate.{tabulate}
 use Rattle.mask.specs.Mask.{test_bit}
@@ -8,13 +7,10 @@ use Rattle.mask.specs.By.{mask_by}
 use Rattle.records.specs.Check.{some?, among, twice, locations, bad_attribute}
 use Rattle.records.specs.declared.command.Command.{Command}
 use Rattle.records.specs.declared.command.Command.TheVariants.{SetVertexAttribute, UnsetVertexAttribute}
-use Rattle.records.specs.declared.command.OptionU32.TheVariants.{None}
 use Rattle.records.specs.declared.command.VertexStepMode.{VertexStepMode}
 use Rattle.records.specs.declared.command.VertexStepMode.TheVariants.{Vertex, Instance}
 use Rattle.records.specs.declared.command.VertexBufferDesc.{VertexBufferDesc}
 use Rattle.records.specs.declared.command.AttributeDesc.{AttributeDesc}
-use Rattle.records.specs.declared.pipeline.OptionVertexBufferDesc.{OptionVertexBufferDesc}
-use Rattle.records.specs.declared.pipeline.OptionVertexBufferDesc.TheVariants as layout
 use Rattle.records.specs.declared.pipeline.VertexBufferLayout.{VertexBufferLayout}
 use Rattle.records.specs.declared.pipeline.RenderPipeline.{RenderPipeline}
 use Rattle.records.specs.declared.pipeline.PrivateCapabilities.{PrivateCapabilities}
@@ -24,22 +20,17 @@ use Rattle.slots.specs.Vertex.{is_instance, slot_at, desc_at, attributes_of}
 use Rattle.slots.specs.Prepare.{slots_of}
 
 abbrev pub no_layout : VertexBufferLayout
-no_layout = record { desc = layout.None }
+no_layout = record { desc = None }
 
 -- the pipeline's description of slot i, if it has one
-abbrev pub described : OptionVertexBufferDesc → Option VertexBufferDesc
-described layout.None = none
-described (layout.Some d) = some d
-
 abbrev pub pipe_desc : RenderPipeline → ℕ → Option VertexBufferDesc
-pipe_desc p i = cond (ltb i p.vertex_buffer_count) (described (get_or p.vertex_buffers i no_layout).desc) none
+pipe_desc p i = cond (ltb i p.vertex_buffer_count) (get_or p.vertex_buffers i no_layout).desc None
 
 abbrev pub attributes_in : RenderPipeline → List AttributeDesc
 attributes_in p = take p.vertex_attribute_count p.vertex_attributes
 
 abbrev pub has : {A : Type 0} → Option A → Bool
-has none = false
-has (some a) = true
+has o = is_some o
 
 abbrev pub same_step : VertexStepMode → VertexStepMode → Bool
 same_step Vertex Vertex = true
@@ -52,22 +43,22 @@ same_desc a b = same_step a.step b.step && eqb a.stride b.stride
 
 -- the pipeline describes the slot otherwise than the state does
 abbrev pub changes : Option VertexBufferDesc → Option VertexBufferDesc → Bool
-changes none old = false
-changes (some d) none = true
-changes (some d) (some e) = not (same_desc d e)
+changes None old = false
+changes (Some d) None = true
+changes (Some d) (Some e) = not (same_desc d e)
 
 abbrev pub steps_by_instance : Option VertexBufferDesc → Bool
-steps_by_instance none = false
-steps_by_instance (some d) = is_instance d.step
+steps_by_instance None = false
+steps_by_instance (Some d) = is_instance d.step
 
 -- the description's step and stride, or what the state had
 abbrev pub step_or : Bool → Option VertexBufferDesc → Bool
-step_or old none = old
-step_or old (some d) = is_instance d.step
+step_or old None = old
+step_or old (Some d) = is_instance d.step
 
 abbrev pub described_slot : Option VertexBufferDesc → VertexSlot → VertexSlot
-described_slot none s = s
-described_slot (some d) s = record { stride = d.stride; raw = s.raw; offset = s.offset }
+described_slot None s = s
+described_slot (Some d) s = record { stride = d.stride; raw = s.raw; offset = s.offset }
 
 abbrev pub changed_slots : RenderPipeline → VertexState → ℕ
 changed_slots p v = mask_by 16 (λ i. changes (pipe_desc p i) (desc_at v i))
@@ -92,8 +83,7 @@ pipeline_vertex caps p v =
     }
 
 abbrev pub desc_or : Option VertexBufferDesc → VertexBufferDesc
-desc_or none = record { step = Vertex; stride = 0 }
-desc_or (some d) = d
+desc_or d = unwrap_or d (record { step = Vertex; stride = 0 })
 
 -- with layout each attribute is sent, with no buffer; without, the old attributes are unset
 abbrev pub set_attribute : RenderPipeline → AttributeDesc → Command

@@ -1,5 +1,5 @@
 -- Pipelines worked out, by computation. Assumes nothing.
-use Rattle.std.specs.Prelude.{ℕ, ◌≡◌, refl, false, List, [], ◌∷◌, ◌++◌, pos, length, drop, replicate}
+use Rattle.std.specs.Prelude.{ℕ, ◌≡◌, refl, false, List, [], ◌∷◌, ◌++◌, pos, length, drop, replicate, Option, None, Some}
 use Rattle.tables.specs.Tabulate.{tabulate}
 use Rattle.mask.specs.Mask.{test_bit, mask_of, places_from}
 use Rattle.mask.specs.By.{mask_by}
@@ -11,13 +11,9 @@ use Rattle.names.specs.declared.wgt.PolygonMode.TheVariants.{Fill}
 use Rattle.names.specs.declared.wgt.PrimitiveTopology.TheVariants.{TriangleList}
 use Rattle.records.specs.Start.{start_attribute, start_fixed, start_immediate, start_target, start_texture_slot}
 use Rattle.records.specs.declared.command.Command.TheVariants.{SetProgram, BindSampler, SetDepthBias, SetStencilFunc, SetStencilOps, ConfigureDepthStencil, SetColorTarget}
-use Rattle.records.specs.declared.command.OptionBlend.TheVariants.{None as no_blend}
-use Rattle.records.specs.declared.command.OptionU32.TheVariants.{None, Some}
+use Rattle.names.specs.declared.gl.StencilState.{StencilState}
 use Rattle.records.specs.declared.command.ColorTargetDesc.{ColorTargetDesc}
 use Rattle.records.specs.declared.command.DepthBiasState.{DepthBiasState}
-use Rattle.records.specs.declared.pipeline.OptionDepthState.TheVariants as depth
-use Rattle.records.specs.declared.pipeline.OptionStencilState.{OptionStencilState}
-use Rattle.records.specs.declared.pipeline.OptionStencilState.TheVariants as stencil
 use Rattle.records.specs.declared.pipeline.PipelineInner.{PipelineInner}
 use Rattle.records.specs.declared.pipeline.RenderPipeline.{RenderPipeline}
 use Rattle.records.specs.declared.pipeline.SamplerBind.{SamplerBind}
@@ -57,7 +53,7 @@ unfolding changed_units sampler_commands mask_by tabulate mask_of places_from te
 number-sent = refl
 
 -- ---- what is fixed
-abbrev fixed_of : DepthBiasState → OptionStencilState → List ColorTargetDesc → RenderPipeline
+abbrev fixed_of : DepthBiasState → Option StencilState → List ColorTargetDesc → RenderPipeline
 fixed_of bias s targets =
     record {
       inner = inner_of [];
@@ -69,7 +65,7 @@ fixed_of bias s targets =
       vertex_attribute_count = 0;
       color_targets = targets ++ drop (length targets) (replicate 8 start_target);
       color_target_count = length targets;
-      depth = depth.None;
+      depth = None;
       depth_bias = bias;
       stencil = s;
       alpha_to_coverage_enabled = false;
@@ -82,18 +78,18 @@ biased n = record { constant = pos n; slope_scale = n; clamp = 0 }
 abbrev referring : ℕ → StencilSide
 referring n = record { function = 519; mask_read = 255; mask_write = 255; reference = n; ops = start_stencil_ops }
 
-abbrev stencil_of : ℕ → OptionStencilState
-stencil_of n = stencil.Some (record { front = referring n; back = referring n })
+abbrev stencil_of : ℕ → Option StencilState
+stencil_of n = Some (record { front = referring n; back = referring n })
 
 abbrev red : ColorTargetDesc
-red = record { mask = 1; blend = no_blend }
+red = record { mask = 1; blend = None }
 
 -- the state after a pipeline with bias 1, reference 1 and one target
 abbrev after : FixedState
 after = pipeline_fixed (fixed_of (biased 1) (stencil_of 1) (start_target ∷ [])) start_fixed
 
 -- a second bias is sent as the first was
-bias-sent : fixed_commands (fixed_of (biased 2) stencil.None (start_target ∷ [])) after ≡ SetDepthBias (biased 2) ∷ ConfigureDepthStencil 0 ∷ []
+bias-sent : fixed_commands (fixed_of (biased 2) None (start_target ∷ [])) after ≡ SetDepthBias (biased 2) ∷ ConfigureDepthStencil 0 ∷ []
 unfolding same_targets
 bias-sent = refl
 
@@ -107,11 +103,11 @@ reference-kept : (pipeline_fixed (fixed_of (biased 1) (stencil_of 2) (start_targ
 reference-kept = refl
 
 -- differing targets are all set; equal ones once for all
-targets-set : fixed_commands (fixed_of (biased 1) stencil.None (red ∷ start_target ∷ [])) after
+targets-set : fixed_commands (fixed_of (biased 1) None (red ∷ start_target ∷ [])) after
     ≡ ConfigureDepthStencil 0 ∷ SetColorTarget (Some 0) red ∷ SetColorTarget (Some 1) start_target ∷ []
 unfolding same_targets all_same each_target
 targets-set = refl
 
-targets-once : fixed_commands (fixed_of (biased 1) stencil.None (red ∷ red ∷ [])) after ≡ ConfigureDepthStencil 0 ∷ SetColorTarget None red ∷ []
+targets-once : fixed_commands (fixed_of (biased 1) None (red ∷ red ∷ [])) after ≡ ConfigureDepthStencil 0 ∷ SetColorTarget None red ∷ []
 unfolding same_targets all_same
 targets-once = refl

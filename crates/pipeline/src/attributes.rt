@@ -1,47 +1,36 @@
 // The vertex attributes of `set_render_pipeline`: its commands and what they are refused for. The
 // contracts cite specs/Vertex.antt.
-ghost use Rattle.std.specs.Prelude.{◌≤◌, ◌≡◌, not, map, get_or, take, length};
-ghost use Rattle.mask.specs.Mask.{test_bit};
+ghost use Rattle.std.specs.Prelude.{◌≤◌, ◌≡◌, map, get_or, length};
 ghost use Rattle.records.specs.Start.{start_attribute};
-ghost use Rattle.records.specs.Check.{some?};
-ghost use Rattle.records.specs.declared.command.AttributeDesc.{AttributeDesc};
-ghost use Rattle.records.specs.declared.command.Command.TheVariants.{SetVertexAttribute};
-ghost use Rattle.records.specs.declared.command.OptionU32.TheVariants.{None};
 ghost use Rattle.slots.specs.Place.{Stands};
 ghost use Rattle.slots.specs.Vertex.{attributes_of};
-ghost use Rattle.pipeline.specs.Vertex.{described, desc_or, unset_attribute, vertex_commands, vertex_too_many, vertex_out_of_range, vertex_absent, vertex_twice};
+ghost use Rattle.pipeline.specs.Vertex.{set_attribute, unset_attribute, vertex_commands, vertex_too_many, vertex_out_of_range, vertex_absent, vertex_twice};
 
-use crate::desc::{desc_in, desc_or};
-use crate::vertex::described_slots;
-use records::check::{scan_attributes, within};
-use records::command::{AttributeDesc, Command, OptionU32};
+use crate::desc::pipe_desc;
+use records::check::{bad_attribute, counted, scan_attributes, within};
+use records::command::{AttributeDesc, Command, VertexBufferDesc, VertexStepMode};
 use records::limits::{MAX_VERTEX_ATTRIBUTES, MAX_VERTEX_BUFFERS};
-use records::pipeline::{OptionVertexBufferDesc, PrivateCapabilities, RenderPipeline};
+use records::pipeline::{PrivateCapabilities, RenderPipeline};
 use records::state::VertexState;
 
-fn attribute_in(
-    attributes: [AttributeDesc; MAX_VERTEX_ATTRIBUTES],
-    count: usize,
-    i: u32,
-) -> AttributeDesc
-    ensures { result ≡ get_or (take count attributes) i start_attribute }
+fn attribute_in(attributes: &[AttributeDesc], i: u32) -> AttributeDesc
+    ensures { result ≡ get_or attributes.now i start_attribute }
 {
-    let at = i as usize;
-    let n = within(count, MAX_VERTEX_ATTRIBUTES);
-    if at < n {
-        attributes[at]
-    } else {
-        AttributeDesc::new()
-    }
+    attributes
+        .get(i as usize)
+        .copied()
+        .unwrap_or(AttributeDesc::new())
 }
 
-fn set_attribute(d: OptionVertexBufferDesc, a: AttributeDesc) -> Command
-    ensures { result ≡ SetVertexAttribute None (desc_or (described d)) a }
+fn set_attribute(p: &RenderPipeline, a: AttributeDesc) -> Command
+    ensures { result ≡ set_attribute p.now a }
 {
-    let buffer_desc = desc_or(d);
     Command::SetVertexAttribute {
-        buffer: OptionU32::None,
-        buffer_desc,
+        buffer: None,
+        buffer_desc: pipe_desc(p, a.buffer_index).unwrap_or(VertexBufferDesc {
+            step: VertexStepMode::Vertex,
+            stride: 0,
+        }),
         attribute_desc: a,
     }
 }
@@ -56,8 +45,7 @@ pub(crate) fn unset_count(v: VertexState) -> u32
 pub(crate) fn unset_command_at(v: VertexState, k: u32) -> Command
     ensures { Stands result k (map unset_attribute (attributes_of v)) }
 {
-    let attributes = v.attributes;
-    let a = attribute_in(attributes, v.attribute_count, k);
+    let a = attribute_in(counted(&v.attributes, v.attribute_count), k);
     Command::UnsetVertexAttribute(a.location)
 }
 
@@ -81,11 +69,8 @@ pub(crate) fn vertex_command_at(
     ensures { Stands result k (vertex_commands caps p v) }
 {
     if caps.vertex_buffer_layout {
-        let attributes = p.vertex_attributes;
-        let a = attribute_in(attributes, p.vertex_attribute_count, k);
-        let layouts = p.vertex_buffers;
-        let d = desc_in(layouts, p.vertex_buffer_count, a.buffer_index);
-        set_attribute(d, a)
+        let a = attribute_in(counted(&p.vertex_attributes, p.vertex_attribute_count), k);
+        set_attribute(&p, a)
     } else {
         unset_command_at(v, k)
     }
@@ -103,9 +88,8 @@ pub fn vertex_too_many(p: RenderPipeline) -> bool
 pub fn vertex_out_of_range(p: RenderPipeline) -> bool
     ensures { result ≡ vertex_out_of_range p }
 {
-    let attributes = p.vertex_attributes;
-    let scan = scan_attributes(attributes, p.vertex_attribute_count);
-    scan.bad
+    let attributes = counted(&p.vertex_attributes, p.vertex_attribute_count);
+    attributes.iter().any(|a| bad_attribute(*a))
 }
 
 // Condition 5: a location stands twice.
@@ -117,31 +101,12 @@ pub fn vertex_twice(p: RenderPipeline) -> bool
     scan.twice
 }
 
-// Whether an attribute's slot is not among those of a mask.
-fn slot_missing(
-    slots: u32,
-    attributes: [AttributeDesc; MAX_VERTEX_ATTRIBUTES],
-    count: usize,
-) -> bool
-    ensures { result ≡ some? (λ (a : AttributeDesc). not (test_bit slots a.buffer_index)) (take count attributes) }
-{
-    let mut left = within(count, MAX_VERTEX_ATTRIBUTES);
-    let mut missing = false;
-    while 0 < left {
-        left = left - 1;
-        let a = attributes[left];
-        let there = mask::test(slots, a.buffer_index);
-        missing = !there | missing;
-    }
-    missing
-}
-
 // Condition 4: an attribute's slot has no description.
 pub fn vertex_absent(p: RenderPipeline) -> bool
     ensures { result ≡ vertex_absent p }
 {
-    let layouts = p.vertex_buffers;
-    let slots = described_slots(layouts, p.vertex_buffer_count);
-    let attributes = p.vertex_attributes;
-    slot_missing(slots, attributes, p.vertex_attribute_count)
+    let attributes = counted(&p.vertex_attributes, p.vertex_attribute_count);
+    attributes
+        .iter()
+        .any(|a| pipe_desc(&p, a.buffer_index).is_none())
 }

@@ -9,36 +9,32 @@ use crate::plan::{FixedPlan, fixed_plan};
 use crate::stencil::{stencil_aspect, stencil_command_at, stencil_or};
 use crate::targets::target_command_at;
 use names::map_primitive_state;
-use records::command::Command;
+use records::command::{Command, DepthState};
 use records::limits::MAX_COLOR_ATTACHMENTS;
-use records::pipeline::{OptionDepthState, RenderPipeline};
+use records::pipeline::RenderPipeline;
 use records::state::FixedState;
 
-fn depth_command_at(depth: OptionDepthState, k: u32) -> Command
+// A match: the place in the list did not close over `map_or`.
+fn depth_command_at(depth: Option<DepthState>, k: u32) -> Command
     ensures { Stands result k (depth_commands depth) }
 {
     match depth {
-        OptionDepthState::None => Command::ConfigureDepthStencil(0),
-        OptionDepthState::Some(d) => Command::SetDepth(d),
+        None => Command::ConfigureDepthStencil(0),
+        Some(d) => Command::SetDepth(d),
     }
 }
 
-fn depth_aspect(depth: OptionDepthState) -> u32
+fn depth_aspect(depth: Option<DepthState>) -> u32
     ensures { (result ≡ depth_aspect depth) × (result ≤ 2) }
 {
-    match depth {
-        OptionDepthState::None => 0,
-        OptionDepthState::Some(_) => 2,
-    }
+    if depth.is_some() { 2 } else { 0 }
 }
 
 // The aspects that the pipeline tests: depth 2, stencil 4.
 fn aspects(p: RenderPipeline) -> u32
     ensures { result ≡ aspects_of p }
 {
-    let depth = p.depth;
-    let stencil = p.stencil;
-    depth_aspect(depth) + stencil_aspect(stencil)
+    depth_aspect(p.depth) + stencil_aspect(p.stencil)
 }
 
 pub(crate) fn fixed_count(p: RenderPipeline, f: FixedState) -> u32

@@ -10,8 +10,8 @@ use crate::targets::{all_alike, same_targets, target_count};
 use names::gl::PrimitiveState;
 use names::map_primitive_state;
 use names::wgt::PrimitiveState as WgtPrimitiveState;
-use records::command::DepthBiasState;
-use records::pipeline::{OptionDepthState, RenderPipeline};
+use records::command::{DepthBiasState, DepthState};
+use records::pipeline::RenderPipeline;
 use records::same::{same_depth_bias, same_primitive};
 use records::state::FixedState;
 
@@ -32,7 +32,7 @@ pub struct FixedPlan {
 fn one_if(b: bool) -> u32
     ensures { (result ≡ cond b 1 0) × (result ≤ 1) }
 {
-    if b { 1 } else { 0 }
+    b as u32
 }
 
 fn primitive_count(new: WgtPrimitiveState, old: PrimitiveState) -> u32
@@ -50,27 +50,22 @@ fn bias_count(new: DepthBiasState, old: DepthBiasState) -> u32
     one_if(differs)
 }
 
-fn depth_count(depth: OptionDepthState) -> u32
+fn depth_count(depth: Option<DepthState>) -> u32
     ensures { (result ≡ length (depth_commands depth)) × (result ≤ 1) }
 {
-    match depth {
-        OptionDepthState::None => 0,
-        OptionDepthState::Some(_) => 1,
-    }
+    depth.is_some() as u32
 }
 
 fn alpha_count(new: bool, old: bool) -> u32
     ensures { (result ≡ length (alpha_part new old)) × (result ≤ 1) }
 {
-    let differs = !(new == old);
-    one_if(differs)
+    one_if(new != old)
 }
 
 fn clip_count(new: u32, old: u32) -> u32
     ensures { (result ≡ length (clip_part new old)) × (result ≤ 1) }
 {
-    let differs = !(new == old);
-    one_if(differs)
+    one_if(new != old)
 }
 
 // None where the targets are the state's.

@@ -8,7 +8,6 @@ ghost use Rattle.pipeline.specs.Plan.{stencil_both};
 
 use names::gl::{StencilSide, StencilState};
 use records::command::Command;
-use records::pipeline::OptionStencilState;
 use records::same::{same_stencil_func, same_stencil_ops};
 
 pub const FRONT: u32 = 0x404;
@@ -28,6 +27,8 @@ fn stencil_func(face: u32, s: StencilSide) -> Command
     }
 }
 
+// Functions and operations apart: the test, the command and the list promised differ, so only the
+// `if` would be shared.
 pub fn stencil_func_count(s: StencilState) -> u32
     ensures { (result ≡ length (stencil_funcs s)) × (result ≤ 2) }
 {
@@ -55,11 +56,10 @@ pub fn stencil_func_at(s: StencilState, k: u32) -> Command
 fn stencil_op(face: u32, s: StencilSide) -> Command
     ensures { result ≡ stencil_op face s }
 {
-    let ops = s.ops;
     Command::SetStencilOps {
         face,
         write_mask: s.mask_write,
-        ops,
+        ops: s.ops,
     }
 }
 
@@ -114,39 +114,30 @@ fn both_at(s: StencilState, k: u32) -> Command
     }
 }
 
-pub(crate) fn stencil_count(stencil: OptionStencilState) -> u32
+pub(crate) fn stencil_count(stencil: Option<StencilState>) -> u32
     ensures { (result ≡ length (stencil_commands stencil)) × (result ≤ 4) }
 {
-    match stencil {
-        OptionStencilState::None => 0,
-        OptionStencilState::Some(s) => both_count(s),
-    }
+    stencil.map_or(0, both_count)
 }
 
-pub(crate) fn stencil_command_at(stencil: OptionStencilState, k: u32) -> Command
+pub(crate) fn stencil_command_at(stencil: Option<StencilState>, k: u32) -> Command
     ensures { Stands result k (stencil_commands stencil) }
 {
     match stencil {
-        OptionStencilState::None => Command::ConfigureDepthStencil(0),
-        OptionStencilState::Some(s) => both_at(s, k),
+        None => Command::ConfigureDepthStencil(0),
+        Some(s) => both_at(s, k),
     }
 }
 
-pub(crate) fn stencil_aspect(stencil: OptionStencilState) -> u32
+pub(crate) fn stencil_aspect(stencil: Option<StencilState>) -> u32
     ensures { (result ≡ stencil_aspect stencil) × (result ≤ 4) }
 {
-    match stencil {
-        OptionStencilState::None => 0,
-        OptionStencilState::Some(_) => 4,
-    }
+    if stencil.is_some() { 4 } else { 0 }
 }
 
 // The pipeline's stencil, or the state's where it has none.
-pub(crate) fn stencil_or(old: StencilState, stencil: OptionStencilState) -> StencilState
+pub(crate) fn stencil_or(old: StencilState, stencil: Option<StencilState>) -> StencilState
     ensures { result ≡ stencil_or old stencil }
 {
-    match stencil {
-        OptionStencilState::None => old,
-        OptionStencilState::Some(s) => s,
-    }
+    stencil.unwrap_or(old)
 }

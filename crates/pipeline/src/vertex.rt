@@ -1,174 +1,90 @@
 // What `set_render_pipeline` makes of the vertex part of the state. The contracts cite
 // specs/Vertex.antt.
-ghost use Rattle.std.specs.Prelude.{◌≡◌, cond, take};
+ghost use Rattle.std.specs.Prelude.{◌≡◌, cond};
+ghost use Rattle.tables.specs.Tabulate.{tabulate};
 ghost use Rattle.mask.specs.Mask.{test_bit};
 ghost use Rattle.mask.specs.By.{mask_by};
-ghost use Rattle.slots.specs.Vertex.{desc_at};
-ghost use Rattle.pipeline.specs.Vertex.{attributes_in, has, changes, steps_by_instance, step_or, pipeline_vertex};
-ghost use Rattle.pipeline.specs.Desc.{desc_in};
-ghost use Rattle.pipeline.specs.Slots.{attribute_slots, strided_slots};
+ghost use Rattle.slots.specs.Vertex.{slot_at};
+ghost use Rattle.pipeline.specs.Vertex.{attributes_in, has, pipe_desc, steps_by_instance, step_or, described_slot, changed_slots, pipeline_vertex};
+ghost use Rattle.pipeline.specs.Slots.{attribute_slots};
 
-use crate::desc::{
-    counted_desc, desc_changes, described_slot, has_desc, slot_desc, step_or, steps_by_instance,
-};
-use records::check::within;
+use crate::desc::{desc_at, desc_changes, described_slot, pipe_desc, step_or, steps_by_instance};
+use mask::mask_where;
+use records::check::counted;
 use records::command::AttributeDesc;
 use records::limits::{MAX_VERTEX_ATTRIBUTES, MAX_VERTEX_BUFFERS};
-use records::pipeline::{PrivateCapabilities, RenderPipeline, VertexBufferLayout};
+use records::pipeline::{PrivateCapabilities, RenderPipeline};
 use records::state::{VertexSlot, VertexState};
+use std::array;
 
 // The slots that the pipeline describes.
-pub(crate) fn described_slots(
-    layouts: [VertexBufferLayout; MAX_VERTEX_BUFFERS],
-    count: usize,
-) -> u32
-    ensures { result ≡ mask_by 16 (λ i. has (desc_in layouts count i)) }
+pub fn described_slots(p: &RenderPipeline) -> u32
+    ensures { result ≡ mask_by 16 (λ i. has (pipe_desc p.now i)) }
 {
-    let mut slots: u32 = 0;
-    let mut i: u32 = 0;
-    while i < 16 {
-        let at = i as usize;
-        let layout = layouts[at];
-        let d = counted_desc(layout, i, count);
-        let there = has_desc(d);
-        slots = mask::set_if(slots, i, there);
-        i = i + 1;
-    }
-    slots
+    mask_where(16, |i| pipe_desc(p, i).is_some())
 }
 
 // The slots that the pipeline steps by instance.
-fn instance_slots(layouts: [VertexBufferLayout; MAX_VERTEX_BUFFERS], count: usize) -> u32
-    ensures { result ≡ mask_by 16 (λ i. steps_by_instance (desc_in layouts count i)) }
+fn instance_slots(p: &RenderPipeline) -> u32
+    ensures { result ≡ mask_by 16 (λ i. steps_by_instance (pipe_desc p.now i)) }
 {
-    let mut slots: u32 = 0;
-    let mut i: u32 = 0;
-    while i < 16 {
-        let at = i as usize;
-        let layout = layouts[at];
-        let d = counted_desc(layout, i, count);
-        let steps = steps_by_instance(d);
-        slots = mask::set_if(slots, i, steps);
-        i = i + 1;
-    }
-    slots
+    mask_where(16, |i| steps_by_instance(pipe_desc(p, i)))
 }
 
 // The slots that step by instance after the call; a slot that the pipeline does not describe is as
 // it was.
-fn stepped_slots(layouts: [VertexBufferLayout; MAX_VERTEX_BUFFERS], count: usize, old: u32) -> u32
-    ensures { result ≡ mask_by 16 (λ i. step_or (test_bit old i) (desc_in layouts count i)) }
+fn stepped_slots(p: &RenderPipeline, old: u32) -> u32
+    ensures { result ≡ mask_by 16 (λ i. step_or (test_bit old i) (pipe_desc p.now i)) }
 {
-    let mut slots: u32 = 0;
-    let mut i: u32 = 0;
-    while i < 16 {
-        let at = i as usize;
-        let layout = layouts[at];
-        let d = counted_desc(layout, i, count);
-        let was = mask::test(old, i);
-        let steps = step_or(was, d);
-        slots = mask::set_if(slots, i, steps);
-        i = i + 1;
-    }
-    slots
+    mask_where(16, |i| step_or(mask::test(old, i), pipe_desc(p, i)))
 }
 
 // The slots that the pipeline describes otherwise than the state does.
-fn changed_slots(
-    layouts: [VertexBufferLayout; MAX_VERTEX_BUFFERS],
-    count: usize,
-    v: VertexState,
-) -> u32
-    ensures { result ≡ mask_by 16 (λ i. changes (desc_in layouts count i) (desc_at v i)) }
+fn changed_slots(p: &RenderPipeline, v: &VertexState) -> u32
+    ensures { result ≡ changed_slots p.now v.now }
 {
-    let mut slots: u32 = 0;
-    let mut i: u32 = 0;
-    let buffers = v.buffers;
-    while i < 16 {
-        let at = i as usize;
-        let layout = layouts[at];
-        let new = counted_desc(layout, i, count);
-        let slot = buffers[at];
-        let there = mask::test(v.described, i);
-        let old = slot_desc(slot, there, mask::test(v.by_instance, i));
-        let differs = desc_changes(new, old);
-        slots = mask::set_if(slots, i, differs);
-        i = i + 1;
-    }
-    slots
+    mask_where(16, |i| desc_changes(pipe_desc(p, i), desc_at(v, i)))
 }
 
 // The slots with the strides of their descriptions.
-fn strided_slots(
-    layouts: [VertexBufferLayout; MAX_VERTEX_BUFFERS],
-    count: usize,
-    buffers: [VertexSlot; MAX_VERTEX_BUFFERS],
-) -> [VertexSlot; MAX_VERTEX_BUFFERS]
-    ensures { result ≡ strided_slots layouts count buffers }
+fn strided_slots(p: &RenderPipeline, v: &VertexState) -> [VertexSlot; MAX_VERTEX_BUFFERS]
+    ensures { result ≡ tabulate 16 (λ i. described_slot (pipe_desc p.now i) (slot_at v.now i)) }
 {
-    let mut slots = buffers;
-    let mut i: u32 = 0;
-    while i < 16 {
-        let at = i as usize;
-        let layout = layouts[at];
-        let d = counted_desc(layout, i, count);
-        let old = slots[at];
-        let slot = described_slot(d, old);
-        slots[at] = slot;
-        i = i + 1;
-    }
-    slots
+    array::from_fn(|i| described_slot(pipe_desc(p, i as u32), v.buffers[i]))
 }
 
-// The slots of the counted attributes.
-fn attribute_slots(attributes: [AttributeDesc; MAX_VERTEX_ATTRIBUTES], count: usize) -> u32
-    ensures { result ≡ attribute_slots (take count attributes) }
+// The slots of the attributes.
+fn attribute_slots(attributes: &[AttributeDesc]) -> u32
+    ensures { result ≡ attribute_slots attributes.now }
 {
-    let mut left = within(count, MAX_VERTEX_ATTRIBUTES);
-    let mut slots: u32 = 0;
-    while 0 < left {
-        left = left - 1;
-        let a = attributes[left];
-        let low = a.buffer_index < 16;
-        slots = mask::set_if(slots, a.buffer_index, low);
-    }
-    slots
+    attributes.iter().fold(0, |slots, a| {
+        mask::set_if(slots, a.buffer_index, a.buffer_index < 16)
+    })
 }
 
 // The dirty slots before those whose description changes.
-fn dirty_before(caps: PrivateCapabilities, p: RenderPipeline, dirty: u32) -> u32
-    ensures { result ≡ cond caps.vertex_buffer_layout dirty (attribute_slots (attributes_in p)) }
+fn dirty_before(caps: PrivateCapabilities, p: &RenderPipeline, dirty: u32) -> u32
+    ensures { result ≡ cond caps.vertex_buffer_layout dirty (attribute_slots (attributes_in p.now)) }
 {
     if caps.vertex_buffer_layout {
         dirty
     } else {
-        let attributes = p.vertex_attributes;
-        attribute_slots(attributes, p.vertex_attribute_count)
+        attribute_slots(counted(&p.vertex_attributes, p.vertex_attribute_count))
     }
 }
 
 // With layouts the state's attributes stay; without, they are the pipeline's.
-fn count_after(caps: PrivateCapabilities, p: RenderPipeline, v: VertexState) -> usize
-    ensures { result ≡ cond caps.vertex_buffer_layout v.attribute_count p.vertex_attribute_count }
-{
-    if caps.vertex_buffer_layout {
-        v.attribute_count
-    } else {
-        p.vertex_attribute_count
-    }
-}
-
 fn attributes_after(
     caps: PrivateCapabilities,
-    p: RenderPipeline,
-    v: VertexState,
-) -> [AttributeDesc; MAX_VERTEX_ATTRIBUTES]
-    ensures { result ≡ cond caps.vertex_buffer_layout v.attributes p.vertex_attributes }
+    p: &RenderPipeline,
+    v: &VertexState,
+) -> ([AttributeDesc; MAX_VERTEX_ATTRIBUTES], usize)
+    ensures { result ≡ (cond caps.vertex_buffer_layout v.now.attributes p.now.vertex_attributes, cond caps.vertex_buffer_layout v.now.attribute_count p.now.vertex_attribute_count) }
 {
     if caps.vertex_buffer_layout {
-        v.attributes
+        (v.attributes, v.attribute_count)
     } else {
-        p.vertex_attributes
+        (p.vertex_attributes, p.vertex_attribute_count)
     }
 }
 
@@ -176,24 +92,17 @@ fn attributes_after(
 pub fn pipeline_vertex(caps: PrivateCapabilities, p: RenderPipeline, v: VertexState) -> VertexState
     ensures { result ≡ pipeline_vertex caps p v }
 {
-    let layouts = p.vertex_buffers;
-    let count = p.vertex_buffer_count;
-    let old = v.buffers;
-    let described = described_slots(layouts, count);
-    let dirty = dirty_before(caps, p, v.dirty_vbuf_mask);
-    let changed = changed_slots(layouts, count, v);
-    let buffers = strided_slots(layouts, count, old);
-    let attributes = attributes_after(caps, p, v);
-    let instances = v.instances;
+    let dirty = dirty_before(caps, &p, v.dirty_vbuf_mask);
+    let buffers = strided_slots(&p, &v);
+    let (attributes, attribute_count) = attributes_after(caps, &p, &v);
     VertexState {
-        described: v.described | described,
-        bound: v.bound,
-        by_instance: stepped_slots(layouts, count, v.by_instance),
-        dirty_vbuf_mask: dirty | changed,
+        described: v.described | described_slots(&p),
+        by_instance: stepped_slots(&p, v.by_instance),
+        dirty_vbuf_mask: dirty | changed_slots(&p, &v),
         buffers,
-        instances,
-        attribute_count: count_after(caps, p, v),
-        instance_vbuf_mask: instance_slots(layouts, count),
+        instance_vbuf_mask: instance_slots(&p),
         attributes,
+        attribute_count,
+        ..v
     }
 }

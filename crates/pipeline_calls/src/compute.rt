@@ -9,9 +9,10 @@ ghost use Rattle.pipeline_calls.specs.Programmed.{ProgrammedOf};
 ghost use Rattle.calls.specs.Judge.{asking};
 
 use crate::moved::with_location;
-use crate::programmed::{Programmed, ProgrammedPlan, programmed_answer, record_programmed};
+use crate::programmed::{Programmed, ProgrammedPlan, programmed_answer};
+use calls::batch::record;
 use calls::judge::{commands_only, judge, list_rooms, spot_of};
-use calls::phase::in_compute;
+use calls::phase::{in_compute, in_phase};
 use pipeline::inner::{
     changed_units, inner_bind, inner_count, inner_immediates, inner_out_of_range, inner_too_many,
 };
@@ -27,13 +28,9 @@ fn compute_asks(phase: Phase, p: ComputePipeline) -> Conditions
 {
     let inner = p.inner;
     Conditions {
-        phase: !in_compute(phase),
         many: inner_too_many(inner),
         range: inner_out_of_range(inner),
-        absent: false,
-        kind: false,
-        sum: false,
-        room: false,
+        ..in_phase(in_compute(phase))
     }
 }
 
@@ -90,6 +87,6 @@ pub fn set_compute_pipeline(
     ensures { Lists caps s (set_compute_pipeline p) list.old result list.new }
 {
     let plan = plan_set_compute_pipeline(list.len(), caps, s, p);
-    record_programmed(list, plan);
+    record(list, &plan.batch);
     programmed_answer(plan, s)
 }

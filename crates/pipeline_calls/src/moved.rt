@@ -4,66 +4,29 @@ ghost use Rattle.std.specs.Prelude.{◌≡◌, cond};
 ghost use Rattle.names.specs.Maps.{primitive_topology};
 ghost use Rattle.calls.specs.Parts.{with_progress, with_vertex, with_draw, with_fixed, with_bind, with_immediates, with_location, with_topology};
 
+use calls::judge::taken;
 use calls::parts::{with_bind, with_draw, with_fixed, with_immediates, with_progress, with_vertex};
 use names::map_primitive_topology;
 use names::wgt::PrimitiveTopology;
-use records::command::OptionU32;
 use records::state::{
     BindState, DrawState, FixedState, ImmediateState, Progress, State, VertexState,
 };
 
-fn taken_vertex(ok: bool, new: VertexState, old: VertexState) -> VertexState
-    ensures { result ≡ cond ok new old }
-{
-    if ok { new } else { old }
-}
-
-fn taken_draw(ok: bool, new: DrawState, old: DrawState) -> DrawState
-    ensures { result ≡ cond ok new old }
-{
-    if ok { new } else { old }
-}
-
-pub(crate) fn taken_fixed(ok: bool, new: FixedState, old: FixedState) -> FixedState
-    ensures { result ≡ cond ok new old }
-{
-    if ok { new } else { old }
-}
-
-fn taken_bind(ok: bool, new: BindState, old: BindState) -> BindState
-    ensures { result ≡ cond ok new old }
-{
-    if ok { new } else { old }
-}
-
-fn taken_immediates(ok: bool, new: ImmediateState, old: ImmediateState) -> ImmediateState
-    ensures { result ≡ cond ok new old }
-{
-    if ok { new } else { old }
-}
-
-pub(crate) fn with_location(d: DrawState, location: OptionU32) -> DrawState
+pub(crate) fn with_location(d: DrawState, location: Option<u32>) -> DrawState
     ensures { result ≡ with_location location d }
 {
-    let format = d.index_format;
     DrawState {
-        topology: d.topology,
-        index_format: format,
-        index_offset: d.index_offset,
         first_instance_location: location,
+        ..d
     }
 }
 
 pub(crate) fn with_topology(d: DrawState, topology: PrimitiveTopology) -> DrawState
     ensures { result ≡ with_topology (primitive_topology topology) d }
 {
-    let format = d.index_format;
-    let location = d.first_instance_location;
     DrawState {
         topology: map_primitive_topology(topology),
-        index_format: format,
-        index_offset: d.index_offset,
-        first_instance_location: location,
+        ..d
     }
 }
 
@@ -82,11 +45,11 @@ pub(crate) fn shared_moved(
     let old_bind = s.bind;
     let old_immediates = s.immediates;
     let moved = with_progress(s, progress);
-    let new_draw = taken_draw(ok, draw, old_draw);
+    let new_draw = taken(ok, draw, old_draw);
     let drawn = with_draw(moved, new_draw);
-    let new_bind = taken_bind(ok, bind, old_bind);
+    let new_bind = taken(ok, bind, old_bind);
     let bound = with_bind(drawn, new_bind);
-    let new_immediates = taken_immediates(ok, immediates, old_immediates);
+    let new_immediates = taken(ok, immediates, old_immediates);
     with_immediates(bound, new_immediates)
 }
 
@@ -102,8 +65,8 @@ pub(crate) fn render_moved(
 {
     let old_vertex = s.vertex;
     let old_fixed = s.fixed;
-    let new_fixed = taken_fixed(ok, fixed, old_fixed);
+    let new_fixed = taken(ok, fixed, old_fixed);
     let set = with_fixed(shared, new_fixed);
-    let new_vertex = taken_vertex(ok, vertex, old_vertex);
+    let new_vertex = taken(ok, vertex, old_vertex);
     with_vertex(set, new_vertex)
 }

@@ -1,11 +1,11 @@
-// Render pipelines: the plan, and how it is written into the list. The contracts cite
-// specs/Piped.antt.
+// Render pipelines: the plan and its batch. The contracts cite specs/Piped.antt.
 ghost use Rattle.std.specs.Prelude.{ℕ, ◌+◌, ◌<◌, ◌≤◌, ◌≡◌, length};
 ghost use Rattle.walks.specs.Fill.{filled};
 ghost use Rattle.calls.specs.Did.{record_of};
-ghost use Rattle.pipeline_calls.specs.Piped.{PipedAllowed, piped_at as command_at, piped_answer};
+ghost use Rattle.pipeline_calls.specs.Piped.{PipedAllowed, piped_at, piped_answer};
 
 use crate::moved::{render_moved, shared_moved, with_location, with_topology};
+use calls::batch::{Batch, record};
 use pipeline::fixed::pipeline_fixed;
 use pipeline::inner::inner_immediates;
 use pipeline::render::{RenderPlan, render_command_at};
@@ -29,6 +29,7 @@ pub struct Piped {
     pub plan: RenderPlan,
 }
 
+// `ok` beside the parts, as in `Verdict`: a refused call has a progress and a place too.
 #[derive(Clone, Copy)]
 pub struct PipedPlan {
     pub ok: bool,
@@ -37,47 +38,34 @@ pub struct PipedPlan {
     pub outcome: Outcome,
 }
 
-pub fn piped_command(batch: Piped, i: usize) -> Command
-    requires { PipedAllowed batch i }
-    ensures { result ≡ command_at batch i }
-{
-    let caps = batch.caps;
-    let pipeline = batch.pipeline;
-    let vertex = batch.vertex;
-    let bind = batch.bind;
-    let fixed = batch.fixed;
-    let plan = batch.plan;
-    render_command_at(caps, pipeline, vertex, bind, fixed, plan, i as u32)
-}
+impl Batch for Piped {
+    ghost place_of = { λ b. b.at };
 
-fn fill_piped(list: &mut [Record], at: usize, n: usize, batch: Piped)
-    requires { (at + n ≤ length list.old) × ((i : ℕ) → i < n → PipedAllowed batch i) }
-    ensures { list.new ≡ filled (λ i. record_of (command_at batch i)) list.old at n }
-{
-    let mut i: usize = 0;
-    while i < n {
-        let c = piped_command(batch, i);
-        list[at + i] = Record { command: c };
-        i += 1;
+    ghost count_of = { λ b. b.n };
+
+    ghost Allowed = { PipedAllowed };
+
+    ghost command_at = { piped_at };
+
+    fn at(&self) -> usize {
+        self.at
     }
-}
 
-fn piped_batch(plan: PipedPlan) -> Piped
-    ensures { result ≡ plan.batch }
-{
-    plan.batch
-}
+    fn count(&self) -> usize {
+        self.n
+    }
 
-fn piped_at(batch: Piped) -> usize
-    ensures { result ≡ batch.at }
-{
-    batch.at
-}
-
-fn piped_count(batch: Piped) -> usize
-    ensures { result ≡ batch.n }
-{
-    batch.n
+    fn command(&self, i: usize) -> Command {
+        render_command_at(
+            self.caps,
+            self.pipeline,
+            self.vertex,
+            self.bind,
+            self.fixed,
+            self.plan,
+            i as u32,
+        )
+    }
 }
 
 // The parts that change are worked out from the batch and the state before the call.
@@ -107,12 +95,10 @@ pub fn piped_answer(plan: PipedPlan, s: State) -> Answer
     Answer { outcome, state }
 }
 
+// The plan by value, as in `record_drawn` (docs/BENCHMARKS.md).
 pub(crate) fn record_piped(list: &mut [Record], plan: PipedPlan)
     requires { (plan.batch.at + plan.batch.n ≤ length list.old) × ((i : ℕ) → i < plan.batch.n → PipedAllowed plan.batch i) }
-    ensures { list.new ≡ filled (λ i. record_of (command_at plan.batch i)) list.old plan.batch.at plan.batch.n }
+    ensures { list.new ≡ filled (λ i. record_of (piped_at plan.batch i)) list.old plan.batch.at plan.batch.n }
 {
-    let batch = piped_batch(plan);
-    let at = piped_at(batch);
-    let n = piped_count(batch);
-    fill_piped(list, at, n, batch);
+    record(list, &plan.batch);
 }

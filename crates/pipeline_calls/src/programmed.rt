@@ -1,13 +1,12 @@
-// What render and compute pipelines share, of a call that records nothing else: the plan, and how it
-// is written into the list. The contracts cite specs/Programmed.antt.
-ghost use Rattle.std.specs.Prelude.{ℕ, ◌+◌, ◌<◌, ◌≤◌, ◌≡◌, length};
-ghost use Rattle.walks.specs.Fill.{filled};
-ghost use Rattle.calls.specs.Did.{record_of};
-ghost use Rattle.pipeline_calls.specs.Programmed.{ProgrammedAllowed, programmed_at as command_at, programmed_answer};
+// What render and compute pipelines share, of a call that records nothing else: the plan and its
+// batch. The contracts cite specs/Programmed.antt.
+ghost use Rattle.std.specs.Prelude.{◌≡◌};
+ghost use Rattle.pipeline_calls.specs.Programmed.{ProgrammedAllowed, programmed_at, programmed_answer};
 
 use crate::moved::shared_moved;
+use calls::batch::Batch;
 use pipeline::inner::inner_command_at;
-use records::command::{Command, Record};
+use records::command::Command;
 use records::outcome::Outcome;
 use records::state::{Answer, BindState, DrawState, ImmediateState, Progress, State};
 
@@ -24,6 +23,7 @@ pub struct Programmed {
 
 // Whether the call is carried through, and the parts that it changes then; the bindings are the
 // batch's.
+// `ok` beside the parts, as in `Verdict`: a refused call has a progress and a place too.
 #[derive(Clone, Copy)]
 pub struct ProgrammedPlan {
     pub ok: bool,
@@ -34,42 +34,27 @@ pub struct ProgrammedPlan {
     pub outcome: Outcome,
 }
 
-pub fn programmed_command(batch: Programmed, i: usize) -> Command
-    requires { ProgrammedAllowed batch i }
-    ensures { result ≡ command_at batch i }
-{
-    let bind = batch.bind;
-    inner_command_at(batch.program, bind, batch.changed, i as u32)
-}
+impl Batch for Programmed {
+    ghost place_of = { λ b. b.at };
 
-fn fill_programmed(list: &mut [Record], at: usize, n: usize, batch: Programmed)
-    requires { (at + n ≤ length list.old) × ((i : ℕ) → i < n → ProgrammedAllowed batch i) }
-    ensures { list.new ≡ filled (λ i. record_of (command_at batch i)) list.old at n }
-{
-    let mut i: usize = 0;
-    while i < n {
-        let c = programmed_command(batch, i);
-        list[at + i] = Record { command: c };
-        i += 1;
+    ghost count_of = { λ b. b.n };
+
+    ghost Allowed = { ProgrammedAllowed };
+
+    ghost command_at = { programmed_at };
+
+    fn at(&self) -> usize {
+        self.at
     }
-}
 
-fn programmed_batch(plan: ProgrammedPlan) -> Programmed
-    ensures { result ≡ plan.batch }
-{
-    plan.batch
-}
+    fn count(&self) -> usize {
+        self.n
+    }
 
-fn programmed_at(batch: Programmed) -> usize
-    ensures { result ≡ batch.at }
-{
-    batch.at
-}
-
-fn programmed_count(batch: Programmed) -> usize
-    ensures { result ≡ batch.n }
-{
-    batch.n
+    fn command(&self, i: usize) -> Command {
+        let bind = self.bind;
+        inner_command_at(self.program, bind, self.changed, i as u32)
+    }
 }
 
 pub fn programmed_answer(plan: ProgrammedPlan, s: State) -> Answer
@@ -82,14 +67,4 @@ pub fn programmed_answer(plan: ProgrammedPlan, s: State) -> Answer
     let immediates = plan.immediates;
     let state = shared_moved(plan.ok, s, progress, draw, bind, immediates);
     Answer { outcome, state }
-}
-
-pub(crate) fn record_programmed(list: &mut [Record], plan: ProgrammedPlan)
-    requires { (plan.batch.at + plan.batch.n ≤ length list.old) × ((i : ℕ) → i < plan.batch.n → ProgrammedAllowed plan.batch i) }
-    ensures { list.new ≡ filled (λ i. record_of (command_at plan.batch i)) list.old plan.batch.at plan.batch.n }
-{
-    let batch = programmed_batch(plan);
-    let at = programmed_at(batch);
-    let n = programmed_count(batch);
-    fill_programmed(list, at, n, batch);
 }

@@ -7,9 +7,9 @@ ghost use Rattle.calls.specs.Settings.{with_reference, referenced as referenced_
 ghost use Rattle.calls.specs.Step.{set_stencil_reference_meaning};
 ghost use Rattle.pipeline_calls.specs.Sides.{SidesOf};
 
-use crate::moved::taken_fixed;
-use crate::sides::{Sides, SidesPlan, record_sides, sides_answer};
-use calls::judge::{commands_only, judge, list_rooms, spot_of};
+use crate::sides::{Sides, SidesPlan, sides_answer};
+use calls::batch::record;
+use calls::judge::{commands_only, judge, list_rooms, spot_of, taken};
 use calls::phase::{in_phase, in_render};
 use names::gl::{StencilSide, StencilState};
 use pipeline::stencil::stencil_func_count;
@@ -21,14 +21,7 @@ use records::state::{Answer, FixedState, State};
 fn with_reference(s: StencilSide, reference: u32) -> StencilSide
     ensures { result ≡ with_reference reference s }
 {
-    let ops = s.ops;
-    StencilSide {
-        function: s.function,
-        mask_read: s.mask_read,
-        mask_write: s.mask_write,
-        reference,
-        ops,
-    }
+    StencilSide { reference, ..s }
 }
 
 // Both sides with the reference.
@@ -45,18 +38,7 @@ fn referenced(s: StencilState, reference: u32) -> StencilState
 fn with_stencil(f: FixedState, stencil: StencilState) -> FixedState
     ensures { result ≡ with_stencil stencil f }
 {
-    let primitive = f.primitive;
-    let color_targets = f.color_targets;
-    let depth_bias = f.depth_bias;
-    FixedState {
-        primitive,
-        color_targets,
-        color_target_count: f.color_target_count,
-        stencil,
-        depth_bias,
-        alpha_to_coverage_enabled: f.alpha_to_coverage_enabled,
-        clip_distance_count: f.clip_distance_count,
-    }
+    FixedState { stencil, ..f }
 }
 
 pub fn plan_set_stencil_reference(
@@ -82,7 +64,7 @@ pub fn plan_set_stencil_reference(
     let progress = v.progress;
     let outcome = v.outcome;
     let new = with_stencil(old, stencil);
-    let fixed = taken_fixed(v.ok, new, old);
+    let fixed = taken(v.ok, new, old);
     SidesPlan {
         progress,
         fixed,
@@ -104,6 +86,6 @@ pub fn set_stencil_reference(
     ensures { Lists caps s (set_stencil_reference reference) list.old result list.new }
 {
     let plan = plan_set_stencil_reference(list.len(), caps, s, reference);
-    record_sides(list, plan);
+    record(list, &plan.batch);
     sides_answer(plan, s)
 }

@@ -11,7 +11,7 @@ ghost use Rattle.calls.specs.Judge.{asking};
 
 use crate::piped::{Piped, PipedPlan, piped_answer, record_piped};
 use calls::judge::{commands_only, judge, list_rooms, spot_of};
-use calls::phase::in_render;
+use calls::phase::{in_phase, in_render};
 use pipeline::attributes::{vertex_absent, vertex_out_of_range, vertex_too_many, vertex_twice};
 use pipeline::fixed::fixed_too_many;
 use pipeline::inner::{inner_bind, inner_out_of_range, inner_too_many};
@@ -28,16 +28,16 @@ fn render_asks(phase: Phase, p: RenderPipeline) -> Conditions
 {
     let inner = p.inner;
     Conditions {
-        phase: !in_render(phase),
         many: vertex_too_many(p) | (fixed_too_many(p) | inner_too_many(inner)),
         range: vertex_out_of_range(p) | inner_out_of_range(inner),
         absent: vertex_absent(p),
         kind: vertex_twice(p),
-        sum: false,
-        room: false,
+        ..in_phase(in_render(phase))
     }
 }
 
+// List, board and state are parameters of each call (state by value, the list lent): a struct would
+// ask callers for another type.
 pub fn plan_set_render_pipeline(
     room: usize,
     caps: PrivateCapabilities,

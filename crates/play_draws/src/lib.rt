@@ -4,5 +4,4 @@
 pub mod binding_lines;
 mod draw_lines;
 pub mod line;
-mod listing;
 mod pipeline_lines;

@@ -6,33 +6,30 @@ use crate::draw_lines::{
 use crate::pipeline_lines::{
     play_set_compute_pipeline, play_set_render_pipeline, play_set_stencil_reference,
 };
-use flat::cursor::Cursor;
-use played::Played;
-use played::print::Output;
+use flat::call::Call;
+use flat::line::{Line, Wrong};
+use played::print::Printer;
 use records::pipeline::PrivateCapabilities;
-use records::state::State;
+use records::state::{Answer, State};
 use std::io::Write;
 
-// Codes 15, 17, 18, 23 and 25 to 28.
+// Bind groups, pipelines, the stencil reference and draws.
 pub fn play_draws<W: Write>(
-    writer: &mut W,
-    out: &mut [u8],
-    output: Output,
+    out: &mut Printer<W>,
     room: usize,
-    line: &[u8],
-    c: Cursor,
-    code: u64,
+    line: &mut Line,
+    call: Call,
     caps: PrivateCapabilities,
     s: State,
-) -> Played {
-    match code {
-        15 => play_set_bind_group(writer, out, output, room, line, c, caps, s),
-        17 => play_set_render_pipeline(writer, out, output, room, line, c, caps, s),
-        18 => play_set_compute_pipeline(writer, out, output, room, line, c, caps, s),
-        23 => play_set_stencil_reference(writer, out, output, room, line, c, caps, s),
-        25 => play_draw(writer, out, output, room, line, c, caps, s),
-        26 => play_draw_indexed(writer, out, output, room, line, c, caps, s),
-        27 => play_draw_indirect(writer, out, output, room, line, c, caps, s),
-        _ => play_draw_indexed_indirect(writer, out, output, room, line, c, caps, s),
+) -> Result<Answer, Wrong> {
+    match call {
+        Call::SetBindGroup => play_set_bind_group(out, room, line, caps, s),
+        Call::SetRenderPipeline => play_set_render_pipeline(out, room, line, caps, s),
+        Call::SetComputePipeline => play_set_compute_pipeline(out, room, line, caps, s),
+        Call::SetStencilReference => play_set_stencil_reference(out, room, line, caps, s),
+        Call::Draw => play_draw(out, room, line, caps, s),
+        Call::DrawIndexed => play_draw_indexed(out, room, line, caps, s),
+        Call::DrawIndirect => play_draw_indirect(out, room, line, caps, s),
+        _ => play_draw_indexed_indirect(out, room, line, caps, s),
     }
 }

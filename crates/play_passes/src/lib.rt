@@ -2,6 +2,5 @@
 #![tactic(auto)]
 
 pub mod line;
-mod listing;
 mod pass_lines;
 pub mod transfer_lines;

@@ -2,184 +2,134 @@
 ghost use Rattle.std.specs.Prelude.{ℕ, ◌<◌};
 ghost use Rattle.pass_calls.specs.Ended.{EndAllowed};
 
-use crate::listing::{put_compute, put_ended, put_render};
-use flat::cursor::{Cursor, closed, is_right};
-use flat::pass::{TakenComputePass, TakenRenderPass, take_compute_pass, take_render_pass};
-use pass_calls::begun_compute::{compute_answer, plan_begin_compute, write_compute_label};
-use pass_calls::begun_render::{plan_begin_render, render_answer, write_render_label};
+use flat::line::{Line, Wrong};
+use flat::pass::{ComputePassArgs, RenderPassArgs, take_compute_pass, take_render_pass};
+use pass_calls::begun_compute::{compute_answer, plan_begin_compute};
+use pass_calls::begun_render::{plan_begin_render, render_answer};
 use pass_calls::ended::{EndPlan, end_answer};
 use pass_calls::ends::{plan_end_compute_pass, plan_end_render_pass};
-use played::print::Output;
-use played::{MAX_LABEL, MAX_NUMBERS, Played};
+use pass_calls::marked::copy_label;
+use played::print::Printer;
+use played::{MAX_LABEL, MAX_NUMBERS};
 use records::pipeline::PrivateCapabilities;
-use records::state::State;
+use records::state::{Answer, State};
 use std::io::Write;
 
 // The end of a pass that is planned: its commands are printed, and its answer is handed on.
-fn played_ended<W: Write>(
-    writer: &mut W,
-    out: &mut [u8],
-    output: Output,
-    plan: EndPlan,
-    s: State,
-    next: Cursor,
-) -> Played
+fn played_ended<W: Write>(out: &mut Printer<W>, plan: EndPlan, s: State) -> Answer
     requires { (i : ℕ) → i < plan.batch.n → EndAllowed plan.batch i }
 {
-    let batch = plan.batch;
-    let printed = put_ended(writer, out, output, batch, is_right(next));
-    let answer = end_answer(plan, s);
-    Played {
-        answer,
-        next,
-        output: printed,
-    }
+    out.put_batch(&plan.batch);
+    end_answer(plan, s)
 }
 
 // The beginning of a render pass whose label and queries are read.
+// Not one function with `begin_compute`: arguments, plan and answer are of other types.
 fn begin_render<W: Write>(
-    writer: &mut W,
-    out: &mut [u8],
-    output: Output,
+    out: &mut Printer<W>,
     room: usize,
     bytes: &mut [u8],
     label: &[u8],
     set: &[u32],
-    a: TakenRenderPass,
-    next: Cursor,
+    a: RenderPassArgs,
     caps: PrivateCapabilities,
     s: State,
-) -> Played {
-    let value = a.value;
+) -> Answer {
     let plan = plan_begin_render(
         set,
         room,
         bytes.len(),
         label.len(),
-        a.has_label,
-        a.label_count,
+        a.label.is_some(),
+        a.label.unwrap_or(0),
         a.set_count,
         caps,
         s,
-        value,
+        a.desc,
     );
-    write_render_label(bytes, label, plan);
-    let batch = plan.batch;
-    let printed = put_render(writer, out, output, batch, is_right(next));
-    let answer = render_answer(plan, s);
-    Played {
-        answer,
-        next,
-        output: printed,
-    }
+    copy_label(bytes, label, plan.put, plan.size);
+    out.put_batch(&plan.batch);
+    render_answer(plan, s)
 }
 
 pub(crate) fn play_begin_render_pass<W: Write>(
-    writer: &mut W,
-    out: &mut [u8],
-    output: Output,
+    out: &mut Printer<W>,
     room: usize,
     bytes: &mut [u8],
-    line: &[u8],
-    c: Cursor,
+    line: &mut Line,
     caps: PrivateCapabilities,
     s: State,
-) -> Played {
+) -> Result<Answer, Wrong> {
     let mut label = [0u8; MAX_LABEL];
-    let mut numbers = [0u32; MAX_NUMBERS];
-    let a = take_render_pass(line, c, &mut label, &mut numbers);
-    let past = a.next;
-    let next = closed(line, past);
-    begin_render(
-        writer, out, output, room, bytes, &label, &numbers, a, next, caps, s,
-    )
+    let mut set = [0u32; MAX_NUMBERS];
+    let a = take_render_pass(line, &mut label, &mut set)?;
+    line.end()?;
+    Ok(begin_render(out, room, bytes, &label, &set, a, caps, s))
 }
 
 // The beginning of a compute pass whose label and queries are read.
 fn begin_compute<W: Write>(
-    writer: &mut W,
-    out: &mut [u8],
-    output: Output,
+    out: &mut Printer<W>,
     room: usize,
     bytes: &mut [u8],
     label: &[u8],
     set: &[u32],
-    a: TakenComputePass,
-    next: Cursor,
+    a: ComputePassArgs,
     caps: PrivateCapabilities,
     s: State,
-) -> Played {
-    let writes = a.writes;
+) -> Answer {
     let plan = plan_begin_compute(
         set,
         room,
         bytes.len(),
         label.len(),
-        a.has_label,
-        a.label_count,
+        a.label.is_some(),
+        a.label.unwrap_or(0),
         a.set_count,
         caps,
         s,
-        writes,
+        a.timestamp_writes,
     );
-    write_compute_label(bytes, label, plan);
-    let batch = plan.batch;
-    let printed = put_compute(writer, out, output, batch, is_right(next));
-    let answer = compute_answer(plan, s);
-    Played {
-        answer,
-        next,
-        output: printed,
-    }
+    copy_label(bytes, label, plan.put, plan.size);
+    out.put_batch(&plan.batch);
+    compute_answer(plan, s)
 }
 
 pub(crate) fn play_begin_compute_pass<W: Write>(
-    writer: &mut W,
-    out: &mut [u8],
-    output: Output,
+    out: &mut Printer<W>,
     room: usize,
     bytes: &mut [u8],
-    line: &[u8],
-    c: Cursor,
+    line: &mut Line,
     caps: PrivateCapabilities,
     s: State,
-) -> Played {
+) -> Result<Answer, Wrong> {
     let mut label = [0u8; MAX_LABEL];
-    let mut numbers = [0u32; MAX_NUMBERS];
-    let a = take_compute_pass(line, c, &mut label, &mut numbers);
-    let past = a.next;
-    let next = closed(line, past);
-    begin_compute(
-        writer, out, output, room, bytes, &label, &numbers, a, next, caps, s,
-    )
+    let mut set = [0u32; MAX_NUMBERS];
+    let a = take_compute_pass(line, &mut label, &mut set)?;
+    line.end()?;
+    Ok(begin_compute(out, room, bytes, &label, &set, a, caps, s))
 }
 
 pub(crate) fn play_end_render_pass<W: Write>(
-    writer: &mut W,
-    out: &mut [u8],
-    output: Output,
+    out: &mut Printer<W>,
     room: usize,
-    line: &[u8],
-    c: Cursor,
+    line: &mut Line,
     caps: PrivateCapabilities,
     s: State,
-) -> Played {
-    let next = closed(line, c);
+) -> Result<Answer, Wrong> {
+    line.end()?;
     let plan = plan_end_render_pass(room, caps, s);
-    played_ended(writer, out, output, plan, s, next)
+    Ok(played_ended(out, plan, s))
 }
 
 pub(crate) fn play_end_compute_pass<W: Write>(
-    writer: &mut W,
-    out: &mut [u8],
-    output: Output,
+    out: &mut Printer<W>,
     room: usize,
-    line: &[u8],
-    c: Cursor,
+    line: &mut Line,
     caps: PrivateCapabilities,
     s: State,
-) -> Played {
-    let next = closed(line, c);
+) -> Result<Answer, Wrong> {
+    line.end()?;
     let plan = plan_end_compute_pass(room, caps, s);
-    played_ended(writer, out, output, plan, s, next)
+    Ok(played_ended(out, plan, s))
 }

@@ -1,105 +1,83 @@
 // Transitions of buffers, copies and query results, by their lines.
-use crate::listing::{put_barriers, put_copies, put_resolved};
-use flat::cursor::{Cursor, closed, is_right};
+use calls::batch::Batch;
+use flat::line::{Line, Wrong};
 use flat::lines::{copies_line, results_line};
 use flat::runs::take_barriers;
-use played::print::Output;
-use played::{MAX_NUMBERS, MAX_REGIONS, Played};
+use played::print::Printer;
+use played::{MAX_NUMBERS, MAX_REGIONS};
 use records::pipeline::PrivateCapabilities;
-use records::state::State;
+use records::state::{Answer, State};
 use std::io::Write;
-use transfer_calls::barriers::barriers_answer;
-use transfer_calls::regions::copies_answer;
+use transfer_calls::barriers::{BarrierCommands, barriers_answer};
+use transfer_calls::regions::{CopyCommands, copies_answer};
 use transfer_calls::resolved::{copy_queries, resolved_answer};
 use transfer_calls::results::plan_copy_query_results;
 use transfer_calls::transfers::{plan_copy_buffer_to_buffer, plan_transition_buffers};
 
 pub fn play_copy_query_results<W: Write>(
-    writer: &mut W,
-    out: &mut [u8],
-    output: Output,
+    out: &mut Printer<W>,
     room: usize,
     queries: &mut [u32],
-    line: &[u8],
-    c: Cursor,
+    line: &mut Line,
     caps: PrivateCapabilities,
     s: State,
-) -> Played {
+) -> Result<Answer, Wrong> {
     let mut numbers = [0u32; MAX_NUMBERS];
-    let a = results_line(line, c, &mut numbers);
-    let buffer = a.buffer;
-    let next = a.next;
+    let a = results_line(line, &mut numbers)?;
+    let (set, range) = (a.queries.set, a.queries.range);
     let plan = plan_copy_query_results(
         &numbers,
         room,
         queries.len(),
-        a.count,
-        a.target,
+        set.count,
+        set.target,
         caps,
         s,
-        a.start,
-        a.end,
-        buffer,
+        range.start,
+        range.end,
+        a.buffer,
         a.offset,
     );
     copy_queries(queries, &numbers, plan);
+    // Not put_batch: no plan of one command says that it has no more than one.
     let batch = plan.batch;
-    let printed = put_resolved(writer, out, output, batch, is_right(next));
-    let answer = resolved_answer(plan, s);
-    Played {
-        answer,
-        next,
-        output: printed,
+    if 0 < batch.n {
+        out.put_command(batch.at as u64, batch.command(0));
     }
+    Ok(resolved_answer(plan, s))
 }
 
 pub(crate) fn play_transition_buffers<W: Write>(
-    writer: &mut W,
-    out: &mut [u8],
-    output: Output,
+    out: &mut Printer<W>,
     room: usize,
-    line: &[u8],
-    c: Cursor,
+    line: &mut Line,
     caps: PrivateCapabilities,
     s: State,
-) -> Played {
+) -> Result<Answer, Wrong> {
     let mut numbers = [0u32; MAX_NUMBERS];
-    let a = take_barriers(line, c, &mut numbers);
-    let past = a.next;
-    let next = closed(line, past);
-    let plan = plan_transition_buffers(&numbers, room, a.count, caps, s);
-    let batch = plan.batch;
-    let printed = put_barriers(writer, out, output, &numbers, batch, is_right(next));
-    let answer = barriers_answer(plan, s);
-    Played {
-        answer,
-        next,
-        output: printed,
-    }
+    let count = take_barriers(line, &mut numbers)?;
+    line.end()?;
+    let plan = plan_transition_buffers(&numbers, room, count, caps, s);
+    out.put_batch(&BarrierCommands {
+        run: &numbers,
+        batch: &plan.batch,
+    });
+    Ok(barriers_answer(plan, s))
 }
 
 pub(crate) fn play_copy_buffer_to_buffer<W: Write>(
-    writer: &mut W,
-    out: &mut [u8],
-    output: Output,
+    out: &mut Printer<W>,
     room: usize,
-    line: &[u8],
-    c: Cursor,
+    line: &mut Line,
     caps: PrivateCapabilities,
     s: State,
-) -> Played {
+) -> Result<Answer, Wrong> {
     let mut regions = [0u64; MAX_REGIONS];
-    let a = copies_line(line, c, &mut regions);
-    let src = a.src;
-    let dst = a.dst;
-    let next = a.next;
-    let plan = plan_copy_buffer_to_buffer(&regions, room, a.count, caps, s, src, dst);
-    let batch = plan.batch;
-    let printed = put_copies(writer, out, output, &regions, batch, is_right(next));
-    let answer = copies_answer(plan, s);
-    Played {
-        answer,
-        next,
-        output: printed,
-    }
+    let a = copies_line(line, &mut regions)?;
+    let plan = plan_copy_buffer_to_buffer(&regions, room, a.count, caps, s, a.src, a.dst);
+    out.put_batch(&CopyCommands {
+        run: &regions,
+        batch: &plan.batch,
+    });
+    Ok(copies_answer(plan, s))
 }

@@ -1,40 +1,16 @@
 // A call of one command or none that is planned: the command is printed with its place in the list,
 // and the answer is handed on.
-use flat::cursor::{Cursor, is_right};
-use played::Played;
-use played::print::{Output, put_command};
-use records::state::State;
-use single_calls::one::{One, OnePlan, one_answer, one_command};
+use calls::batch::Batch;
+use played::print::Printer;
+use records::state::{Answer, State};
+use single_calls::one::{OnePlan, one_answer};
 use std::io::Write;
 
-fn put_one<W: Write>(
-    writer: &mut W,
-    out: &mut [u8],
-    output: Output,
-    batch: One,
-    right: bool,
-) -> Output {
-    if right & (0 < batch.n) {
-        let c = one_command(batch, 0);
-        return put_command(writer, out, output, batch.at as u64, c);
-    }
-    output
-}
-
-pub(crate) fn played_one<W: Write>(
-    writer: &mut W,
-    out: &mut [u8],
-    output: Output,
-    plan: OnePlan,
-    s: State,
-    next: Cursor,
-) -> Played {
+pub(crate) fn played_one<W: Write>(out: &mut Printer<W>, plan: OnePlan, s: State) -> Answer {
+    // Not put_batch: no plan of one command says that it has no more than one.
     let batch = plan.batch;
-    let printed = put_one(writer, out, output, batch, is_right(next));
-    let answer = one_answer(plan, s);
-    Played {
-        answer,
-        next,
-        output: printed,
+    if 0 < batch.n {
+        out.put_command(batch.at as u64, batch.command(0));
     }
+    one_answer(plan, s)
 }

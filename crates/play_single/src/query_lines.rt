@@ -1,81 +1,72 @@
 // Queries, by their lines.
 use crate::one::played_one;
-use flat::cursor::Cursor;
+use flat::line::{Line, Wrong};
 use flat::lines::{queries_line, query_line};
-use played::print::Output;
-use played::{MAX_NUMBERS, Played};
+use played::MAX_NUMBERS;
+use played::print::Printer;
 use records::pipeline::PrivateCapabilities;
-use records::state::State;
+use records::state::{Answer, State};
 use single_calls::queries::{
     plan_begin_query, plan_end_query, plan_write_timestamp, reset_queries,
 };
 use std::io::Write;
 
+// The three calls apart: only the plan's function differs, and a closure over seven arguments is no
+// plainer.
 pub(crate) fn play_begin_query<W: Write>(
-    writer: &mut W,
-    out: &mut [u8],
-    output: Output,
+    out: &mut Printer<W>,
     room: usize,
-    line: &[u8],
-    c: Cursor,
+    line: &mut Line,
     caps: PrivateCapabilities,
     s: State,
-) -> Played {
+) -> Result<Answer, Wrong> {
     let mut numbers = [0u32; MAX_NUMBERS];
-    let a = query_line(line, c, &mut numbers);
-    let next = a.next;
-    let plan = plan_begin_query(&numbers, room, a.count, a.target, caps, s, a.index);
-    played_one(writer, out, output, plan, s, next)
+    let a = query_line(line, &mut numbers)?;
+    let plan = plan_begin_query(&numbers, room, a.set.count, a.set.target, caps, s, a.index);
+    Ok(played_one(out, plan, s))
 }
 
 pub(crate) fn play_end_query<W: Write>(
-    writer: &mut W,
-    out: &mut [u8],
-    output: Output,
+    out: &mut Printer<W>,
     room: usize,
-    line: &[u8],
-    c: Cursor,
+    line: &mut Line,
     caps: PrivateCapabilities,
     s: State,
-) -> Played {
+) -> Result<Answer, Wrong> {
     let mut numbers = [0u32; MAX_NUMBERS];
-    let a = query_line(line, c, &mut numbers);
-    let next = a.next;
-    let plan = plan_end_query(&numbers, room, a.count, a.target, caps, s, a.index);
-    played_one(writer, out, output, plan, s, next)
+    let a = query_line(line, &mut numbers)?;
+    let plan = plan_end_query(&numbers, room, a.set.count, a.set.target, caps, s, a.index);
+    Ok(played_one(out, plan, s))
 }
 
 pub(crate) fn play_write_timestamp<W: Write>(
-    writer: &mut W,
-    out: &mut [u8],
-    output: Output,
+    out: &mut Printer<W>,
     room: usize,
-    line: &[u8],
-    c: Cursor,
+    line: &mut Line,
     caps: PrivateCapabilities,
     s: State,
-) -> Played {
+) -> Result<Answer, Wrong> {
     let mut numbers = [0u32; MAX_NUMBERS];
-    let a = query_line(line, c, &mut numbers);
-    let next = a.next;
-    let plan = plan_write_timestamp(&numbers, room, a.count, a.target, caps, s, a.index);
-    played_one(writer, out, output, plan, s, next)
+    let a = query_line(line, &mut numbers)?;
+    let plan = plan_write_timestamp(&numbers, room, a.set.count, a.set.target, caps, s, a.index);
+    Ok(played_one(out, plan, s))
 }
 
 pub(crate) fn play_reset_queries(
-    output: Output,
-    line: &[u8],
-    c: Cursor,
+    line: &mut Line,
     caps: PrivateCapabilities,
     s: State,
-) -> Played {
+) -> Result<Answer, Wrong> {
     let mut numbers = [0u32; MAX_NUMBERS];
-    let a = queries_line(line, c, &mut numbers);
-    let next = a.next;
-    let answer = reset_queries(&numbers, a.count, a.target, caps, s, a.start, a.end);
-    Played {
-        answer,
-        next,
-        output,
-    }
+    let a = queries_line(line, &mut numbers)?;
+    let (set, range) = (a.set, a.range);
+    Ok(reset_queries(
+        &numbers,
+        set.count,
+        set.target,
+        caps,
+        s,
+        range.start,
+        range.end,
+    ))
 }

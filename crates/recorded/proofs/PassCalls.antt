@@ -12,19 +12,13 @@ use Rattle.names.specs.Gl.{GL_COLOR_ATTACHMENT0, GL_DEPTH_ATTACHMENT, GL_STENCIL
 use Rattle.records.specs.Check.{bad_attribute, bad_resolve}
 use Rattle.records.specs.declared.command.AttributeDesc.{AttributeDesc}
 use Rattle.records.specs.declared.command.Command.TheVariants.{BindAttachment, InvalidateAttachments, SetDrawColorBuffers, PushDebugGroup}
-use Rattle.records.specs.declared.command.OptionU32.{OptionU32}
-use Rattle.records.specs.declared.command.OptionU32.TheVariants.{None, Some}
+use Rattle.std.specs.Prelude.{Option, None, Some}
+use Rattle.records.specs.declared.pass.TimestampWrites.{TimestampWrites}
 use Rattle.records.specs.declared.command.SampleKind.{SampleKind}
 use Rattle.records.specs.declared.command.SampleKind.TheVariants as kind
 use Rattle.records.specs.declared.pass.ColorAttachment.{ColorAttachment}
 use Rattle.records.specs.declared.pass.ColorPlace.{ColorPlace}
 use Rattle.records.specs.declared.pass.DepthStencilAttachment.{DepthStencilAttachment}
-use Rattle.records.specs.declared.pass.OptionColorAttachment.{OptionColorAttachment}
-use Rattle.records.specs.declared.pass.OptionColorAttachment.TheVariants as place
-use Rattle.records.specs.declared.pass.OptionDepthStencil.{OptionDepthStencil}
-use Rattle.records.specs.declared.pass.OptionDepthStencil.TheVariants as target
-use Rattle.records.specs.declared.pass.OptionTimestampWrites.{OptionTimestampWrites}
-use Rattle.records.specs.declared.pass.OptionTimestampWrites.TheVariants as writes
 use Rattle.records.specs.declared.pass.RenderPassDescriptor.{RenderPassDescriptor}
 use Rattle.records.specs.declared.pipeline.PrivateCapabilities.{PrivateCapabilities}
 use Rattle.records.specs.declared.state.PassState.{PassState}
@@ -58,13 +52,13 @@ depth-point aspects = go (eqb aspects 2) (eqb aspects 4)
 
 module _ (w : Type 0) (u : Used) where
   -- ---- timestamps and labels
-  of-timestamp : (o : OptionU32) → Plain w u (timestamp o)
+  of-timestamp : (o : Option ℕ) → Plain w u (timestamp o)
   of-timestamp None = tt
   of-timestamp (Some q) = (plain refl refl, tt)
 
-  of-begin : (set : Lent) (t : OptionTimestampWrites) → Plain w u (begin_timestamp set t)
-  of-begin set writes.None = tt
-  of-begin set (writes.Some t) = of-timestamp (query_at set t.beginning_of_pass_write_index)
+  of-begin : (set : Lent) (t : Option TimestampWrites) → Plain w u (begin_timestamp set t)
+  of-begin set None = tt
+  of-begin set (Some t) = of-timestamp (query_at set t.beginning_of_pass_write_index)
 
   of-pop : (t : Bool) → Plain w u (pop_label t)
   of-pop true = (plain refl refl, tt)
@@ -82,9 +76,9 @@ module _ (w : Type 0) (u : Used) where
       go false q = tt
 
   -- ---- the beginning of a render pass
-  of-place : (caps : PrivateCapabilities) (n i : ℕ) (o : OptionColorAttachment) → i < 8 → Plain w u (attach_place caps n i o)
-  of-place caps n i place.None h = tt
-  of-place caps n i (place.Some a) h = (
+  of-place : (caps : PrivateCapabilities) (n i : ℕ) (o : Option ColorAttachment) → i < 8 → Plain w u (attach_place caps n i o)
+  of-place caps n i None h = tt
+  of-place caps n i (Some a) h = (
     plain-either (resolves_in_place caps i a.ops a.resolve_target) (BindAttachment (GL_COLOR_ATTACHMENT0 + i) (view_or a.view a.resolve_target) None n)
         (BindAttachment (GL_COLOR_ATTACHMENT0 + i) a.view a.depth_slice 1) (plain (ap out_of_range (low-point i h)) refl) (plain (ap out_of_range (low-point i h)) refl),
     tt,
@@ -96,9 +90,9 @@ module _ (w : Type 0) (u : Used) where
   of_places caps n i (p ∷ ps) h =
       joined w u (attach_place caps n i p.attachment) (attach_colors caps n (suc i) ps) (of-place caps n i p.attachment (omega arith)) (of_places caps n (suc i) ps (omega arith))
 
-  of-depth : (o : OptionDepthStencil) → Plain w u (attach_depth o)
-  of-depth target.None = tt
-  of-depth (target.Some d) = (plain (ap out_of_range (depth-point d.view.aspects)) refl, tt)
+  of-depth : (o : Option DepthStencilAttachment) → Plain w u (attach_depth o)
+  of-depth None = tt
+  of-depth (Some d) = (plain (ap out_of_range (depth-point d.view.aspects)) refl, tt)
 
   of-clear : (n : ℕ) (a : ColorAttachment) (k : SampleKind) → n < 8 → Plain w u (clear_color n a k)
   of-clear n a kind.Float h = (plain (ap out_of_range (lt-leb 8 n h)) refl, tt)
@@ -106,9 +100,9 @@ module _ (w : Type 0) (u : Used) where
   of-clear n a kind.Sint h = (plain (ap out_of_range (lt-leb 8 n h)) refl, tt)
   of-clear n a kind.Depth h = tt
 
-  of-cleared : (n : ℕ) (o : OptionColorAttachment) → n < 8 → Plain w u (clear_place n o)
-  of-cleared n place.None h = tt
-  of-cleared n (place.Some a) h = chosen w u (clears a.ops) (clear_color n a a.view.kind) [] (of-clear n a a.view.kind h) tt
+  of-cleared : (n : ℕ) (o : Option ColorAttachment) → n < 8 → Plain w u (clear_place n o)
+  of-cleared n None h = tt
+  of-cleared n (Some a) h = chosen w u (clears a.ops) (clear_color n a a.view.kind) [] (of-clear n a a.view.kind h) tt
 
   of-clears : (i : ℕ) (ps : List ColorPlace) → i + length ps ≤ 8 → Plain w u (clear_colors i ps)
   unfolding clear_colors
@@ -121,9 +115,9 @@ module _ (w : Type 0) (u : Used) where
   of-both false true d = (plain refl refl, tt)
   of-both false false d = tt
 
-  of-depth-clear : (o : OptionDepthStencil) → Plain w u (clear_depth o)
-  of-depth-clear target.None = tt
-  of-depth-clear (target.Some d) = of-both (clears d.depth_ops) (clears d.stencil_ops) d
+  of-depth-clear : (o : Option DepthStencilAttachment) → Plain w u (clear_depth o)
+  of-depth-clear None = tt
+  of-depth-clear (Some d) = of-both (clears d.depth_ops) (clears d.stencil_ops) d
 
   pub begins-render : (caps : PrivateCapabilities) (d : RenderPassDescriptor) (label : Label) (set : Lent) (at : ℕ) → ltb 8 d.color_attachment_count ≡ false
       → over_run label.bytes ≡ false → u.bytes ≡ at + length (label_bytes label) → Plain w u (begin_render_commands caps d label set at)
@@ -169,9 +163,9 @@ module _ (w : Type 0) (u : Used) where
       (joined w u (map unset_attribute l) (timestamp s.end_of_pass_timestamp) (unsets l a) (of-timestamp s.end_of_pass_timestamp))))
 
   -- ---- compute passes
-  pub begins-compute : (t : OptionTimestampWrites) (label : Label) (set : Lent) (at : ℕ) → over_run label.bytes ≡ false → u.bytes ≡ at + length (label_bytes label)
+  pub begins-compute : (t : Option TimestampWrites) (label : Label) (set : Lent) (at : ℕ) → over_run label.bytes ≡ false → u.bytes ≡ at + length (label_bytes label)
       → Plain w u (begin_timestamp set t ++ push_label label at)
   begins-compute t label set at o e = joined w u (begin_timestamp set t) (push_label label at) (of-begin set t) (of-push label at o e)
 
-  pub ends-compute : (t : Bool) (o : OptionU32) → Plain w u (pop_label t ++ timestamp o)
+  pub ends-compute : (t : Bool) (o : Option ℕ) → Plain w u (pop_label t ++ timestamp o)
   ends-compute t o = joined w u (pop_label t) (timestamp o) (of-pop t) (of-timestamp o)

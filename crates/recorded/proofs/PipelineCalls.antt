@@ -18,11 +18,8 @@ use Rattle.records.specs.declared.command.AttributeDesc.{AttributeDesc}
 use Rattle.records.specs.declared.command.ColorTargetDesc.{ColorTargetDesc}
 use Rattle.records.specs.declared.command.Command.{Command}
 use Rattle.records.specs.declared.command.Command.TheVariants.{SetPrimitive, SetDepthBias, SetAlphaToCoverage, SetColorTarget, BindSampler}
-use Rattle.records.specs.declared.command.OptionU32.TheVariants.{None}
-use Rattle.records.specs.declared.pipeline.OptionDepthState.{OptionDepthState}
-use Rattle.records.specs.declared.pipeline.OptionDepthState.TheVariants as depth
-use Rattle.records.specs.declared.pipeline.OptionStencilState.{OptionStencilState}
-use Rattle.records.specs.declared.pipeline.OptionStencilState.TheVariants as stencil
+use Rattle.std.specs.Prelude.{Option, None, Some}
+use Rattle.records.specs.declared.command.DepthState.{DepthState}
 use Rattle.records.specs.declared.pipeline.PipelineInner.{PipelineInner}
 use Rattle.records.specs.declared.pipeline.PrivateCapabilities.{PrivateCapabilities}
 use Rattle.records.specs.declared.pipeline.RenderPipeline.{RenderPipeline}
@@ -80,13 +77,13 @@ module _ (w : Type 0) (u : Used) where
       chosen w u (same_stencil_ops s.front.ops s.back.ops && eqb s.front.mask_write s.back.mask_write) (stencil_op GL_FRONT_AND_BACK s.front ∷ [])
       (stencil_op GL_FRONT s.front ∷ stencil_op GL_BACK s.back ∷ []) (plain refl refl, tt) (plain refl refl, (plain refl refl, tt))
 
-  of-depth : (o : OptionDepthState) → Plain w u (depth_commands o)
-  of-depth depth.None = tt
-  of-depth (depth.Some d) = (plain refl refl, tt)
+  of-depth : (o : Option DepthState) → Plain w u (depth_commands o)
+  of-depth None = tt
+  of-depth (Some d) = (plain refl refl, tt)
 
-  of-stencil : (o : OptionStencilState) → Plain w u (stencil_commands o)
-  of-stencil stencil.None = tt
-  of-stencil (stencil.Some s) = joined w u (stencil_funcs s) (stencil_ops s) (stencils s) (of-ops s)
+  of-stencil : (o : Option StencilState) → Plain w u (stencil_commands o)
+  of-stencil None = tt
+  of-stencil (Some s) = joined w u (stencil_funcs s) (stencil_ops s) (stencils s) (of-ops s)
 
   of-each : (i : ℕ) (xs : List ColorTargetDesc) → i + length xs ≤ 8 → Plain w u (each_target i xs)
   unfolding each_target

@@ -1,6 +1,6 @@
 -- When two of the values that the recorder compares are the same: document 01, "recorded only on change", and gles/command.rs. Assumes nothing.
 -- Each test is equality (`Equality`, at the end), but for `same_stencil_func`, which is equality of what `stencil_func` takes of a side.
-use Rattle.std.specs.Prelude.{ℕ, ◌≡◌, refl, Bool, true, false, ◌&&◌, eqb, ℤ, pos, negsuc}
+use Rattle.std.specs.Prelude.{ℕ, ◌≡◌, refl, Bool, true, false, ◌&&◌, eqb, ℤ, pos, negsuc, Option, None, Some}
 use Rattle.std.proofs.Common.{sym, ap, ap₂, ◌∙◌, subst, arith, eqb-true, eq-eqb}
 use Rattle.names.specs.declared.gl.BlendComponent.{BlendComponent}
 use Rattle.names.specs.declared.gl.BlendDesc.{BlendDesc}
@@ -9,10 +9,6 @@ use Rattle.names.specs.declared.gl.StencilOps.{StencilOps}
 use Rattle.names.specs.declared.gl.StencilSide.{StencilSide}
 use Rattle.records.specs.declared.command.ColorTargetDesc.{ColorTargetDesc}
 use Rattle.records.specs.declared.command.DepthBiasState.{DepthBiasState}
-use Rattle.records.specs.declared.command.OptionBlend.{OptionBlend}
-use Rattle.records.specs.declared.command.OptionBlend.TheVariants.{None as no_blend, Some as some_blend}
-use Rattle.records.specs.declared.command.OptionU32.{OptionU32}
-use Rattle.records.specs.declared.command.OptionU32.TheVariants.{None, Some}
 
 -- both set or both not
 abbrev pub same_bool : Bool → Bool → Bool
@@ -29,7 +25,7 @@ same_int (negsuc m) (pos n) = false
 same_int (negsuc m) (negsuc n) = eqb m n
 
 -- both none, or both some and the same number
-abbrev pub same_option_u32 : OptionU32 → OptionU32 → Bool
+abbrev pub same_option_u32 : Option ℕ → Option ℕ → Bool
 same_option_u32 None None = true
 same_option_u32 None (Some n) = false
 same_option_u32 (Some m) None = false
@@ -44,11 +40,11 @@ abbrev pub same_blend : BlendDesc → BlendDesc → Bool
 same_blend a b = same_component a.alpha b.alpha && same_component a.color b.color
 
 -- both none, or both some and the same blend
-abbrev pub same_option_blend : OptionBlend → OptionBlend → Bool
-same_option_blend no_blend no_blend = true
-same_option_blend no_blend (some_blend y) = false
-same_option_blend (some_blend x) no_blend = false
-same_option_blend (some_blend x) (some_blend y) = same_blend x y
+abbrev pub same_option_blend : Option BlendDesc → Option BlendDesc → Bool
+same_option_blend None None = true
+same_option_blend None (Some y) = false
+same_option_blend (Some x) None = false
+same_option_blend (Some x) (Some y) = same_blend x y
 
 -- mask and blend
 abbrev pub same_color_target : ColorTargetDesc → ColorTargetDesc → Bool
@@ -149,13 +145,13 @@ integer = equality equal self
 pub option-u32 : Equality same_option_u32
 option-u32 = equality equal self
   where
-    equal : (a b : OptionU32) → same_option_u32 a b ≡ true → a ≡ b
+    equal : (a b : Option ℕ) → same_option_u32 a b ≡ true → a ≡ b
     equal None None e = refl
     equal None (Some n) e = never e
     equal (Some m) None e = never e
     equal (Some m) (Some n) e = ap Some (eqb-true m n e)
 
-    self : (a : OptionU32) → same_option_u32 a a ≡ true
+    self : (a : Option ℕ) → same_option_u32 a a ≡ true
     self None = refl
     self (Some m) = eq-eqb m m refl
 
@@ -170,15 +166,15 @@ blend = by-fields (λ a. (a.alpha, a.color)) (λ k. record { alpha = k.0; color 
 pub option-blend : Equality same_option_blend
 option-blend = equality equal self
   where
-    equal : (a b : OptionBlend) → same_option_blend a b ≡ true → a ≡ b
-    equal no_blend no_blend e = refl
-    equal no_blend (some_blend n) e = never e
-    equal (some_blend m) no_blend e = never e
-    equal (some_blend m) (some_blend n) e = ap some_blend (blend.equal m n e)
+    equal : (a b : Option BlendDesc) → same_option_blend a b ≡ true → a ≡ b
+    equal None None e = refl
+    equal None (Some n) e = never e
+    equal (Some m) None e = never e
+    equal (Some m) (Some n) e = ap Some (blend.equal m n e)
 
-    self : (a : OptionBlend) → same_option_blend a a ≡ true
-    self no_blend = refl
-    self (some_blend m) = itself blend m
+    self : (a : Option BlendDesc) → same_option_blend a a ≡ true
+    self None = refl
+    self (Some m) = itself blend m
 
 pub color-target : Equality same_color_target
 color-target = by-fields (λ a. (a.mask, a.blend)) (λ k. record { mask = k.0; blend = k.1 }) (λ a. refl) (both number option-blend)

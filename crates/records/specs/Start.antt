@@ -1,9 +1,7 @@
 -- The starting values: document 01, "The state record". Each record's own, then the parts, then the state. Definitions only.
-use Rattle.std.specs.Prelude.{false, replicate, pos}
+use Rattle.std.specs.Prelude.{false, replicate, pos, None}
 use Rattle.names.specs.Start.{start_primitive_state, start_stencil_state}
 use Rattle.records.specs.declared.command.Extent3d.{Extent3d}
-use Rattle.records.specs.declared.command.OptionU32.TheVariants.{None}
-use Rattle.records.specs.declared.command.OptionBlend.TheVariants.{None as no_blend}
 use Rattle.records.specs.declared.command.VertexAttribKind.TheVariants.{Float}
 use Rattle.records.specs.declared.command.TextureInner.TheVariants.{Renderbuffer}
 use Rattle.records.specs.declared.command.SampleKind.TheVariants.{Float as float_kind}
@@ -64,7 +62,7 @@ start_draw = record { topology = 0; index_format = Uint32; index_offset = 0; fir
 
 -- "15 and no blend for a colour target"
 abbrev pub start_target : ColorTargetDesc
-start_target = record { mask = 15; blend = no_blend }
+start_target = record { mask = 15; blend = None }
 
 abbrev pub start_depth_bias : DepthBiasState
 start_depth_bias = record { constant = pos 0; slope_scale = 0; clamp = 0 }

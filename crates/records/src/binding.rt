@@ -3,13 +3,13 @@
 use crate::command::{ImageBinding, RangeU32};
 use crate::limits::{MAX_BIND_GROUPS, MAX_BINDINGS};
 
-#[derive(Clone, Copy)]
+#[derive(Clone, Copy, Debug, PartialEq, Eq)]
 pub enum BufferBindingType {
     Uniform,
     Storage,
 }
 
-#[derive(Clone, Copy)]
+#[derive(Clone, Copy, Debug, PartialEq, Eq)]
 pub enum BindingType {
     Buffer {
         ty: BufferBindingType,
@@ -22,7 +22,7 @@ pub enum BindingType {
 
 // An entry of a group's layout, with what the group's slot table has at its binding number; a slot
 // above 255 stands for a number past the table.
-#[derive(Clone, Copy)]
+#[derive(Clone, Copy, Debug, PartialEq, Eq)]
 pub struct BindGroupLayoutEntry {
     pub binding: u32,
     pub ty: BindingType,
@@ -30,12 +30,15 @@ pub struct BindGroupLayoutEntry {
 }
 
 // A group of the layout: whether it has a record, and how many entries.
-#[derive(Clone, Copy)]
+// No `Option`: a count without a record is a case of its own (cases/specs/Readings.antt; the edit
+// `long_without_record`).
+#[derive(Clone, Copy, Debug, PartialEq, Eq)]
 pub struct GroupShape {
     pub present: bool,
     pub entry_count: usize,
 }
 
+// An `ArrayVec` is an array beside its count (no heap); so is `BindGroup`.
 #[derive(Clone, Copy)]
 pub struct PipelineLayout {
     pub groups: [GroupShape; MAX_BIND_GROUPS],
@@ -48,7 +51,7 @@ pub struct GroupEntries {
     pub entries: [BindGroupLayoutEntry; MAX_BINDINGS],
 }
 
-#[derive(Clone, Copy)]
+#[derive(Clone, Copy, Debug, PartialEq, Eq)]
 pub enum RawBinding {
     Buffer {
         raw: u32,
@@ -65,7 +68,7 @@ pub enum RawBinding {
     Sampler(u32),
 }
 
-#[derive(Clone, Copy)]
+#[derive(Clone, Copy, Debug, PartialEq, Eq)]
 pub struct Content {
     pub binding: RawBinding,
 }

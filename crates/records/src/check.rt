@@ -1,7 +1,9 @@
-// The check of a handed-in state: which of document 01's conditions hold of it. Each list is gone
-// through from its counted end to its beginning, but for the search of one location.
-ghost use Rattle.std.specs.Prelude.{◌≡◌, ◌≤◌, min, take, drop};
-ghost use Rattle.records.specs.Check.{some?, among, locations, bad_mask, too_many as too_many_of, bad_attribute, bad_descriptor, bad_resolve, bad_units, bad_masks, over_room, broken_limits};
+// The check of a handed-in state: which of document 01's conditions hold of it. What lies past a count
+// is not looked at.
+ghost use Rattle.std.specs.Prelude.{◌≡◌, ◌≤◌, min, take};
+ghost use Rattle.std.specs.List.{list_any, enumerate_from};
+ghost use Rattle.records.specs.Any.{has_location, sampled_past};
+ghost use Rattle.records.specs.Check.{some?, bad_mask, too_many as too_many_of, bad_attribute, bad_descriptor, bad_resolve, bad_masks, over_room, broken_limits};
 ghost use Rattle.records.specs.Scan.{scan_start, scan_one, scanned};
 
 use crate::command::{AttributeDesc, ImmediateDesc};
@@ -14,7 +16,7 @@ use crate::state::{
 };
 
 // How many elements the lent runs have. A run that a call is not handed counts as long enough.
-#[derive(Clone, Copy)]
+#[derive(Clone, Copy, Debug, PartialEq, Eq)]
 pub struct Rooms {
     pub commands: usize,
     pub bytes: usize,
@@ -25,7 +27,14 @@ pub struct Rooms {
 pub fn within(count: usize, length: usize) -> usize
     ensures { result ≡ min count length }
 {
-    if count < length { count } else { length }
+    count.min(length)
+}
+
+// The elements that are counted: all, where the count is larger.
+pub fn counted<T>(items: &[T], count: usize) -> &[T]
+    ensures { result.now ≡ take count items.now }
+{
+    &items[..count.min(items.len())]
 }
 
 fn bad_mask(m: u32) -> bool
@@ -42,7 +51,7 @@ pub fn bad_attribute(a: AttributeDesc) -> bool
 
 // What has been found of the attributes gone through: their locations below 16, whether one is out
 // of range, whether a location stands twice.
-#[derive(Clone, Copy)]
+#[derive(Clone, Copy, Debug, PartialEq, Eq)]
 pub struct AttributeScan {
     pub seen: u32,
     pub bad: bool,
@@ -73,54 +82,43 @@ fn scan_attribute(s: AttributeScan, a: AttributeDesc, again: bool) -> AttributeS
     }
 }
 
-// Whether a counted attribute from `from` on has the location.
-fn stands_later(
-    attributes: [AttributeDesc; MAX_VERTEX_ATTRIBUTES],
-    from: usize,
-    count: usize,
-    location: u32,
-) -> bool
-    ensures { result ≡ among location (locations (drop from (take count attributes))) }
+// Whether an attribute has the location.
+fn stands_among(attributes: &[AttributeDesc], location: u32) -> bool
+    ensures { result ≡ list_any (has_location location) attributes.now }
 {
-    let end = within(count, MAX_VERTEX_ATTRIBUTES);
-    let mut i = from;
-    while i < end {
-        let a = attributes[i];
-        if location == a.location {
-            return true;
-        }
-        i = i + 1;
-    }
-    false
+    attributes.iter().any(|a| location == a.location)
 }
 
-// What is found of the counted attributes. The mask has the locations below 16; one that is out of
-// range is looked for.
-pub fn scan_attributes(
-    attributes: [AttributeDesc; MAX_VERTEX_ATTRIBUTES],
-    count: usize,
-) -> AttributeScan
-    ensures { result ≡ scanned (take count attributes) }
+// What is found of the attributes. The mask has the locations below 16; one that is out of range is
+// looked for.
+fn scan_listed(attributes: &[AttributeDesc]) -> AttributeScan
+    ensures { result ≡ scanned attributes.now }
 {
-    let mut left = within(count, MAX_VERTEX_ATTRIBUTES);
     let mut scan = AttributeScan::new();
-    while 0 < left {
-        let behind = left;
-        left = left - 1;
-        let a = attributes[left];
+    for i in (0..attributes.len()).rev() {
+        let a = attributes[i];
         let masked = a.location < 16;
         let again = if masked {
             mask::test(scan.seen, a.location)
         } else {
-            stands_later(attributes, behind, count, a.location)
+            stands_among(&attributes[i + 1..], a.location)
         };
         scan = scan_attribute(scan, a, again);
     }
     scan
 }
 
-// The attributes of the state. An array is taken into a local only where something is counted: the
-// copy costs more than the test.
+pub fn scan_attributes(
+    attributes: [AttributeDesc; MAX_VERTEX_ATTRIBUTES],
+    count: usize,
+) -> AttributeScan
+    ensures { result ≡ scanned (take count attributes) }
+{
+    scan_listed(counted(&attributes, count))
+}
+
+// The attributes of the state. An array is taken into a local, and only where something is counted:
+// the copy costs more than the test (docs/DECISIONS.md, D76).
 fn scan_vertex(vertex: VertexState) -> AttributeScan
     ensures { result ≡ scanned (take vertex.attribute_count vertex.attributes) }
 {
@@ -138,29 +136,27 @@ pub fn bad_descriptor(d: ImmediateDesc) -> bool
     (d.offset % 4 != 0) | ((d.size_bytes % 4 != 0) | (256 < end))
 }
 
+fn any_bad(descs: &[ImmediateDesc]) -> bool
+    ensures { result ≡ list_any bad_descriptor descs.now }
+{
+    descs.iter().any(|d| bad_descriptor(*d))
+}
+
 pub fn bad_descriptors(descs: [ImmediateDesc; MAX_IMMEDIATES_COMMANDS], count: usize) -> bool
     ensures { result ≡ some? bad_descriptor (take count descs) }
 {
-    let mut left = within(count, MAX_IMMEDIATES_COMMANDS);
-    let mut bad = false;
-    while 0 < left {
-        left = left - 1;
-        let d = descs[left];
-        bad = bad_descriptor(d) | bad;
-    }
-    bad
+    any_bad(counted(&descs, count))
 }
 
-// Of up to eight descriptors. The compiler counts the eight places out, and copies no array.
+// Of up to eight descriptors. Eight places, not a slice of those counted: the compiler counts them out,
+// and copies no array (measured: docs/BENCHMARKS.md, "What was taken out").
 fn bad_few(immediates: ImmediateState) -> bool
     ensures { immediates.count ≤ 8 → result ≡ some? bad_descriptor (take immediates.count immediates.descs) }
 {
-    let mut left: usize = 8;
     let mut bad = false;
-    while 0 < left {
-        left = left - 1;
-        let d = immediates.descs[left];
-        bad = ((left < immediates.count) & bad_descriptor(d)) | bad;
+    for i in (0..8).rev() {
+        let d = immediates.descs[i];
+        bad = ((i < immediates.count) & bad_descriptor(d)) | bad;
     }
     bad
 }
@@ -184,17 +180,10 @@ fn bad_resolve(r: ResolveDesc) -> bool
     8 <= r.place
 }
 
-fn bad_resolves(resolves: [ResolveDesc; MAX_COLOR_ATTACHMENTS], count: usize) -> bool
-    ensures { result ≡ some? bad_resolve (take count resolves) }
+fn bad_resolves(resolves: &[ResolveDesc]) -> bool
+    ensures { result ≡ list_any bad_resolve resolves.now }
 {
-    let mut left = within(count, MAX_COLOR_ATTACHMENTS);
-    let mut bad = false;
-    while 0 < left {
-        left = left - 1;
-        let r = resolves[left];
-        bad = bad_resolve(r) | bad;
-    }
-    bad
+    resolves.iter().any(|r| bad_resolve(*r))
 }
 
 fn bad_pass(pass: PassState) -> bool
@@ -204,22 +193,14 @@ fn bad_pass(pass: PassState) -> bool
         return false;
     }
     let resolves = pass.resolves;
-    bad_resolves(resolves, pass.resolve_count)
+    bad_resolves(counted(&resolves, pass.resolve_count))
 }
 
 fn bad_units(bind: BindState) -> bool
-    ensures { result ≡ bad_units bind.sampled 0 bind.texture_slots }
+    ensures { result ≡ list_any (sampled_past bind.sampled) (enumerate_from 0 bind.texture_slots) }
 {
-    let mut left: u32 = 16;
-    let mut bad = false;
-    while 0 < left {
-        left = left - 1;
-        let i = left as usize;
-        let t = bind.texture_slots[i];
-        let takes = mask::test(bind.sampled, left);
-        bad = (takes & (16 <= t.sampler_index)) | bad;
-    }
-    bad
+    bind.texture_slots.iter().enumerate().any(|(i, t)| mask::test(bind.sampled, i as u32)
+        & (16 <= t.sampler_index))
 }
 
 fn too_many(state: State) -> bool
@@ -254,7 +235,7 @@ pub fn over_room(p: Progress, r: Rooms) -> bool
 }
 
 // Which limits a state breaks, the room aside: conditions 2, 3 and 5.
-#[derive(Clone, Copy)]
+#[derive(Clone, Copy, Debug, PartialEq, Eq)]
 pub struct Broken {
     pub many: bool,
     pub range: bool,

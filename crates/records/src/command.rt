@@ -5,33 +5,28 @@ ghost use Rattle.records.specs.Start.{start_attribute, start_depth_bias, start_e
 
 use names::gl::{BlendDesc, PrimitiveState, StencilOps};
 
-// An optional number: a location, a buffer, a sampler, a query, a layer, a slice or a draw buffer.
-#[derive(Clone, Copy)]
-pub enum OptionU32 {
-    None,
-    Some(u32),
-}
-
-#[derive(Clone, Copy)]
+// Ranges and colours by their number, no generic: the contracts name each, and floats derive no
+// `Eq`.
+#[derive(Clone, Copy, Debug, PartialEq, Eq)]
 pub struct RangeU32 {
     pub start: u32,
     pub end: u32,
 }
 
-#[derive(Clone, Copy)]
+#[derive(Clone, Copy, Debug, PartialEq, Eq)]
 pub struct MemoryRange {
     pub start: u64,
     pub end: u64,
 }
 
-#[derive(Clone, Copy)]
+#[derive(Clone, Copy, Debug, PartialEq, Eq)]
 pub struct BufferCopy {
     pub src_offset: u64,
     pub dst_offset: u64,
     pub size: u64,
 }
 
-#[derive(Clone, Copy)]
+#[derive(Clone, Copy, Debug, PartialEq, Eq)]
 pub struct Extent3d {
     pub width: u32,
     pub height: u32,
@@ -53,7 +48,7 @@ impl Extent3d {
     }
 }
 
-#[derive(Clone, Copy)]
+#[derive(Clone, Copy, Debug, PartialEq, Eq)]
 pub struct RectI32 {
     pub x: i32,
     pub y: i32,
@@ -86,7 +81,7 @@ pub struct ClearColor {
     pub is_srgb: bool,
 }
 
-#[derive(Clone, Copy)]
+#[derive(Clone, Copy, Debug, PartialEq, Eq)]
 pub struct ColorU32 {
     pub r: u32,
     pub g: u32,
@@ -94,7 +89,7 @@ pub struct ColorU32 {
     pub a: u32,
 }
 
-#[derive(Clone, Copy)]
+#[derive(Clone, Copy, Debug, PartialEq, Eq)]
 pub struct ColorI32 {
     pub r: i32,
     pub g: i32,
@@ -102,7 +97,7 @@ pub struct ColorI32 {
     pub a: i32,
 }
 
-#[derive(Clone, Copy)]
+#[derive(Clone, Copy, Debug, PartialEq, Eq)]
 pub enum TextureInner {
     Renderbuffer(u32),
     DefaultRenderbuffer,
@@ -111,7 +106,7 @@ pub enum TextureInner {
 }
 
 // In place of the format: what a sample of it is.
-#[derive(Clone, Copy)]
+#[derive(Clone, Copy, Debug, PartialEq, Eq)]
 pub enum SampleKind {
     Float,
     Uint,
@@ -119,7 +114,7 @@ pub enum SampleKind {
     Depth,
 }
 
-#[derive(Clone, Copy)]
+#[derive(Clone, Copy, Debug, PartialEq, Eq)]
 pub struct TextureView {
     pub inner: TextureInner,
     pub aspects: u32,
@@ -129,38 +124,38 @@ pub struct TextureView {
     pub is_srgb: bool,
 }
 
-#[derive(Clone, Copy)]
+#[derive(Clone, Copy, Debug, PartialEq, Eq)]
 pub enum VertexStepMode {
     Vertex,
     Instance,
 }
 
-#[derive(Clone, Copy)]
+#[derive(Clone, Copy, Debug, PartialEq, Eq)]
 pub struct VertexBufferDesc {
     pub step: VertexStepMode,
     pub stride: u32,
 }
 
-#[derive(Clone, Copy)]
+#[derive(Clone, Copy, Debug, PartialEq, Eq)]
 pub struct BufferBinding {
     pub raw: u32,
     pub offset: u64,
 }
 
-#[derive(Clone, Copy)]
+#[derive(Clone, Copy, Debug, PartialEq, Eq)]
 pub enum VertexAttribKind {
     Float,
     Integer,
 }
 
-#[derive(Clone, Copy)]
+#[derive(Clone, Copy, Debug, PartialEq, Eq)]
 pub struct VertexFormatDesc {
     pub element_count: i32,
     pub element_format: u32,
     pub attrib_kind: VertexAttribKind,
 }
 
-#[derive(Clone, Copy)]
+#[derive(Clone, Copy, Debug, PartialEq, Eq)]
 pub struct AttributeDesc {
     pub location: u32,
     pub offset: u32,
@@ -186,16 +181,16 @@ impl AttributeDesc {
     }
 }
 
-#[derive(Clone, Copy)]
+#[derive(Clone, Copy, Debug, PartialEq, Eq)]
 pub struct ImageBinding {
     pub raw: u32,
     pub mip_level: u32,
-    pub array_layer: OptionU32,
+    pub array_layer: Option<u32>,
     pub access: u32,
     pub format: u32,
 }
 
-#[derive(Clone, Copy)]
+#[derive(Clone, Copy, Debug, PartialEq, Eq)]
 pub struct ImmediateDesc {
     pub location: u32,
     pub ty: u32,
@@ -203,14 +198,14 @@ pub struct ImmediateDesc {
     pub size_bytes: u32,
 }
 
-#[derive(Clone, Copy)]
+#[derive(Clone, Copy, Debug, PartialEq, Eq)]
 pub struct DepthState {
     pub function: u32,
     pub mask: bool,
 }
 
 // The two floats are held as their bits, so that equality by bits is exact.
-#[derive(Clone, Copy)]
+#[derive(Clone, Copy, Debug, PartialEq, Eq)]
 pub struct DepthBiasState {
     pub constant: i32,
     pub slope_scale: u32,
@@ -229,16 +224,10 @@ impl DepthBiasState {
     }
 }
 
-#[derive(Clone, Copy)]
-pub enum OptionBlend {
-    None,
-    Some(BlendDesc),
-}
-
-#[derive(Clone, Copy)]
+#[derive(Clone, Copy, Debug, PartialEq, Eq)]
 pub struct ColorTargetDesc {
     pub mask: u32,
-    pub blend: OptionBlend,
+    pub blend: Option<BlendDesc>,
 }
 
 impl ColorTargetDesc {
@@ -250,7 +239,7 @@ impl ColorTargetDesc {
     {
         ColorTargetDesc {
             mask: ColorTargetDesc::MASK,
-            blend: OptionBlend::None,
+            blend: None,
         }
     }
 }
@@ -263,7 +252,7 @@ pub enum Command {
         vertex_count: u32,
         first_instance: u32,
         instance_count: u32,
-        first_instance_location: OptionU32,
+        first_instance_location: Option<u32>,
     },
     DrawIndexed {
         topology: u32,
@@ -273,20 +262,20 @@ pub enum Command {
         base_vertex: i32,
         first_instance: u32,
         instance_count: u32,
-        first_instance_location: OptionU32,
+        first_instance_location: Option<u32>,
     },
     DrawIndirect {
         topology: u32,
         indirect_buf: u32,
         indirect_offset: u64,
-        first_instance_location: OptionU32,
+        first_instance_location: Option<u32>,
     },
     DrawIndexedIndirect {
         topology: u32,
         index_type: u32,
         indirect_buf: u32,
         indirect_offset: u64,
-        first_instance_location: OptionU32,
+        first_instance_location: Option<u32>,
     },
     Dispatch(u32, u32, u32),
     DispatchIndirect {
@@ -321,7 +310,7 @@ pub enum Command {
     BindAttachment {
         attachment: u32,
         view: TextureView,
-        depth_slice: OptionU32,
+        depth_slice: Option<u32>,
         sample_count: u32,
     },
     ResolveAttachment {
@@ -363,7 +352,7 @@ pub enum Command {
     ConfigureDepthStencil(u32),
     SetAlphaToCoverage(bool),
     SetVertexAttribute {
-        buffer: OptionU32,
+        buffer: Option<u32>,
         buffer_desc: VertexBufferDesc,
         attribute_desc: AttributeDesc,
     },
@@ -377,7 +366,7 @@ pub enum Command {
     SetPrimitive(PrimitiveState),
     SetBlendConstant(ColorF32),
     SetColorTarget {
-        draw_buffer_index: OptionU32,
+        draw_buffer_index: Option<u32>,
         desc: ColorTargetDesc,
     },
     BindBuffer {
@@ -387,7 +376,7 @@ pub enum Command {
         offset: i32,
         size: i32,
     },
-    BindSampler(u32, OptionU32),
+    BindSampler(u32, Option<u32>),
     BindTexture {
         slot: u32,
         texture: u32,

@@ -2,7 +2,9 @@
 ghost use Rattle.std.specs.Prelude.{◌≡◌};
 ghost use Rattle.records.specs.Outcome.{number, none_hold, either as either_of, smallest};
 
-#[derive(Clone, Copy)]
+// One enum with `Done`: `smallest` and `step` (specs) name it, and a refused call hands a state
+// back too.
+#[derive(Clone, Copy, Debug, PartialEq, Eq)]
 pub enum Outcome {
     // Carried through.
     Done,
@@ -26,20 +28,11 @@ pub enum Outcome {
 pub fn number_of(outcome: Outcome) -> u8
     ensures { result ≡ number outcome }
 {
-    match outcome {
-        Outcome::Done => 0,
-        Outcome::WrongPhase => 1,
-        Outcome::TooMany => 2,
-        Outcome::OutOfRange => 3,
-        Outcome::Absent => 4,
-        Outcome::WrongKind => 5,
-        Outcome::Overflow => 6,
-        Outcome::NoRoom => 7,
-    }
+    outcome as u8
 }
 
 // Which of the seven conditions hold.
-#[derive(Clone, Copy)]
+#[derive(Clone, Copy, Debug, PartialEq, Eq)]
 pub struct Conditions {
     pub phase: bool,
     pub many: bool,

@@ -1,6 +1,6 @@
 // What the pass beginnings are handed: `RenderPassDescriptor` and `ComputePassDescriptor` of lib.rs.
 // The label and the queries of the timestamps' set are lent beside it.
-use crate::command::{Extent3d, OptionU32, TextureView};
+use crate::command::{Extent3d, TextureView};
 use crate::limits::MAX_COLOR_ATTACHMENTS;
 
 // `AttachmentOps`.
@@ -30,30 +30,18 @@ pub struct ColorF64 {
 }
 
 #[derive(Clone, Copy)]
-pub enum OptionView {
-    None,
-    Some(TextureView),
-}
-
-#[derive(Clone, Copy)]
 pub struct ColorAttachment {
     pub view: TextureView,
-    pub depth_slice: OptionU32,
-    pub resolve_target: OptionView,
+    pub depth_slice: Option<u32>,
+    pub resolve_target: Option<TextureView>,
     pub ops: u32,
     pub clear_value: ColorF64,
-}
-
-#[derive(Clone, Copy)]
-pub enum OptionColorAttachment {
-    None,
-    Some(ColorAttachment),
 }
 
 // A colour place: filled or empty.
 #[derive(Clone, Copy)]
 pub struct ColorPlace {
-    pub attachment: OptionColorAttachment,
+    pub attachment: Option<ColorAttachment>,
 }
 
 #[derive(Clone, Copy)]
@@ -65,31 +53,20 @@ pub struct DepthStencilAttachment {
     pub clear_stencil: u32,
 }
 
-#[derive(Clone, Copy)]
-pub enum OptionDepthStencil {
-    None,
-    Some(DepthStencilAttachment),
-}
-
 // The places in the lent query set that are written at the beginning and at the end of the pass.
-#[derive(Clone, Copy)]
+#[derive(Clone, Copy, Debug, PartialEq, Eq)]
 pub struct TimestampWrites {
-    pub beginning_of_pass_write_index: OptionU32,
-    pub end_of_pass_write_index: OptionU32,
+    pub beginning_of_pass_write_index: Option<u32>,
+    pub end_of_pass_write_index: Option<u32>,
 }
 
-#[derive(Clone, Copy)]
-pub enum OptionTimestampWrites {
-    None,
-    Some(TimestampWrites),
-}
-
+// An `ArrayVec` is an array beside its count (no heap).
 #[derive(Clone, Copy)]
 pub struct RenderPassDescriptor {
     pub extent: Extent3d,
     pub sample_count: u32,
     pub color_attachments: [ColorPlace; MAX_COLOR_ATTACHMENTS],
     pub color_attachment_count: usize,
-    pub depth_stencil_attachment: OptionDepthStencil,
-    pub timestamp_writes: OptionTimestampWrites,
+    pub depth_stencil_attachment: Option<DepthStencilAttachment>,
+    pub timestamp_writes: Option<TimestampWrites>,
 }

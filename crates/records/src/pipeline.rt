@@ -1,9 +1,8 @@
 // What the pipeline calls are handed: `RenderPipeline`, `ComputePipeline` and `PipelineInner` of
-// gles/mod.rs. An `ArrayVec` is an array beside its count; an element that may be missing is a
-// struct that holds the enum.
+// gles/mod.rs. An `ArrayVec` is an array beside its count (no heap); an element that may be missing is
+// a struct that holds the `Option`.
 use crate::command::{
-    AttributeDesc, ColorTargetDesc, DepthBiasState, DepthState, ImmediateDesc, OptionU32,
-    VertexBufferDesc,
+    AttributeDesc, ColorTargetDesc, DepthBiasState, DepthState, ImmediateDesc, VertexBufferDesc,
 };
 use crate::limits::{
     MAX_COLOR_ATTACHMENTS, MAX_IMMEDIATES_COMMANDS, MAX_TEXTURE_SLOTS, MAX_VERTEX_ATTRIBUTES,
@@ -13,7 +12,7 @@ use names::gl::StencilState;
 use names::wgt::{PrimitiveState, PrimitiveTopology};
 
 // The flags of a board, of `PrivateCapabilities` those that the recorder reads.
-#[derive(Clone, Copy)]
+#[derive(Clone, Copy, Debug, PartialEq, Eq)]
 pub struct PrivateCapabilities {
     pub memory_barriers: bool,
     pub vertex_buffer_layout: bool,
@@ -21,40 +20,22 @@ pub struct PrivateCapabilities {
     pub multisampled_render_to_texture: bool,
 }
 
-#[derive(Clone, Copy)]
-pub enum OptionVertexBufferDesc {
-    None,
-    Some(VertexBufferDesc),
-}
-
-#[derive(Clone, Copy)]
+#[derive(Clone, Copy, Debug, PartialEq, Eq)]
 pub struct VertexBufferLayout {
-    pub desc: OptionVertexBufferDesc,
+    pub desc: Option<VertexBufferDesc>,
 }
 
 // The sampler that a texture unit takes: an entry of `SamplerBindMap`.
-#[derive(Clone, Copy)]
+#[derive(Clone, Copy, Debug, PartialEq, Eq)]
 pub struct SamplerBind {
-    pub sampler_index: OptionU32,
-}
-
-#[derive(Clone, Copy)]
-pub enum OptionDepthState {
-    None,
-    Some(DepthState),
-}
-
-#[derive(Clone, Copy)]
-pub enum OptionStencilState {
-    None,
-    Some(StencilState),
+    pub sampler_index: Option<u32>,
 }
 
 #[derive(Clone, Copy)]
 pub struct PipelineInner {
     pub program: u32,
     pub sampler_map: [SamplerBind; MAX_TEXTURE_SLOTS],
-    pub first_instance_location: OptionU32,
+    pub first_instance_location: Option<u32>,
     pub immediates_descs: [ImmediateDesc; MAX_IMMEDIATES_COMMANDS],
     pub immediates_count: usize,
     pub clip_distance_count: u32,
@@ -71,9 +52,9 @@ pub struct RenderPipeline {
     pub vertex_attribute_count: usize,
     pub color_targets: [ColorTargetDesc; MAX_COLOR_ATTACHMENTS],
     pub color_target_count: usize,
-    pub depth: OptionDepthState,
+    pub depth: Option<DepthState>,
     pub depth_bias: DepthBiasState,
-    pub stencil: OptionStencilState,
+    pub stencil: Option<StencilState>,
     pub alpha_to_coverage_enabled: bool,
 }
 

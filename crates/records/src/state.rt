@@ -6,8 +6,8 @@ ghost use Rattle.std.specs.Prelude.{◌≡◌};
 ghost use Rattle.records.specs.Start.{start_progress, start_slot, start_vertex, start_draw, start_fixed, start_bind, start_resolve, start_pass, start_immediates, start_state};
 
 use crate::command::{
-    AttributeDesc, ColorTargetDesc, DepthBiasState, Extent3d, ImmediateDesc, OptionU32, RangeU32,
-    SampleKind, TextureInner, TextureView,
+    AttributeDesc, ColorTargetDesc, DepthBiasState, Extent3d, ImmediateDesc, RangeU32, SampleKind,
+    TextureInner, TextureView,
 };
 use crate::limits::{
     MAX_COLOR_ATTACHMENTS, MAX_IMMEDIATES, MAX_IMMEDIATES_COMMANDS, MAX_SAMPLERS,
@@ -16,7 +16,7 @@ use crate::limits::{
 use crate::outcome::Outcome;
 use names::gl::{PrimitiveState, StencilState};
 
-#[derive(Clone, Copy)]
+#[derive(Clone, Copy, Debug, PartialEq, Eq)]
 pub enum Phase {
     Closed,
     Open,
@@ -24,14 +24,14 @@ pub enum Phase {
     Compute,
 }
 
-#[derive(Clone, Copy)]
+#[derive(Clone, Copy, Debug, PartialEq, Eq)]
 pub enum IndexFormat {
     Uint16,
     Uint32,
 }
 
 // The phase, and how many commands, marker bytes and queries have been recorded.
-#[derive(Clone, Copy)]
+#[derive(Clone, Copy, Debug, PartialEq, Eq)]
 pub struct Progress {
     pub phase: Phase,
     pub commands: usize,
@@ -53,7 +53,7 @@ impl Progress {
 }
 
 // A pair of slot description and binding: the description's stride; the binding's buffer and offset.
-#[derive(Clone, Copy)]
+#[derive(Clone, Copy, Debug, PartialEq, Eq)]
 pub struct VertexSlot {
     pub stride: u32,
     pub raw: u32,
@@ -73,6 +73,7 @@ impl VertexSlot {
 }
 
 // The field order keeps the numbers that a call changes next to the slots, with no padding between.
+// An array beside its count, here and below: no heap.
 #[derive(Clone, Copy)]
 pub struct VertexState {
     // Which slots have a description, and which a binding; which descriptions step by instance.
@@ -110,12 +111,12 @@ impl VertexState {
 }
 
 // What a draw command takes from the state.
-#[derive(Clone, Copy)]
+#[derive(Clone, Copy, Debug, PartialEq, Eq)]
 pub struct DrawState {
     pub topology: u32,
     pub index_format: IndexFormat,
     pub index_offset: u64,
-    pub first_instance_location: OptionU32,
+    pub first_instance_location: Option<u32>,
 }
 
 impl DrawState {
@@ -128,7 +129,7 @@ impl DrawState {
             topology: DrawState::TOPOLOGY,
             index_format: IndexFormat::Uint32,
             index_offset: 0,
-            first_instance_location: OptionU32::None,
+            first_instance_location: None,
         }
     }
 }
@@ -165,7 +166,7 @@ impl FixedState {
     }
 }
 
-#[derive(Clone, Copy)]
+#[derive(Clone, Copy, Debug, PartialEq, Eq)]
 pub struct TextureSlotDesc {
     pub tex_target: u32,
     pub sampler_index: u32,
@@ -199,7 +200,7 @@ impl BindState {
 }
 
 // A colour place that is resolved at the end of the pass, and where to.
-#[derive(Clone, Copy)]
+#[derive(Clone, Copy, Debug, PartialEq, Eq)]
 pub struct ResolveDesc {
     pub place: u32,
     pub dst: TextureView,
@@ -232,7 +233,7 @@ pub struct PassState {
     pub resolve_count: usize,
     pub invalidate_attachments: u32,
     pub has_pass_label: bool,
-    pub end_of_pass_timestamp: OptionU32,
+    pub end_of_pass_timestamp: Option<u32>,
 }
 
 impl PassState {
@@ -247,7 +248,7 @@ impl PassState {
             resolve_count: 0,
             invalidate_attachments: 0,
             has_pass_label: false,
-            end_of_pass_timestamp: OptionU32::None,
+            end_of_pass_timestamp: None,
         }
     }
 }

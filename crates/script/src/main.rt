@@ -4,218 +4,81 @@
 
 mod run;
 
-use crate::run::{Tally, call_of, first_tally, put_open_list, state_after, told};
-use flat::cursor::{Cursor, is_right};
-use play::line::play;
-use played::print::{flush, put, put_answers, put_error, put_state};
-use records::check::within;
-use records::state::State;
-use sessions::header::{Header, take_header};
-use sessions::input::{Input, MAX_TURNS, line_number, new_input, next_line, turns_left};
-use sessions::verdict::played_length;
-use std::io::{Read, Write};
+use crate::run::Session;
+use flat::line::Line;
+use played::print::Printer;
+use sessions::header::take_header;
+use sessions::lines::{Lines, MAX_TURNS};
+use sessions::wrong::WrongLine;
+use std::io;
+use std::io::{BufWriter, Read, Write};
 
-// Where the reading stands, how much of the output buffer is used, and whether there is more.
-#[derive(Clone, Copy)]
-struct Place {
-    input: Input,
-    used: usize,
-    more: bool,
-}
-
-// The last line of a session: `===`, or what is wrong.
-fn put_end<W: Write>(
-    writer: &mut W,
-    out: &mut [u8],
-    used: usize,
-    input: Input,
-    wrong: Cursor,
-) -> usize {
-    if is_right(wrong) {
-        return put(writer, out, used, b"===\n");
-    }
-    put_error(writer, out, used, line_number(input), wrong)
-}
-
-// What a session ends with after its state: the answers, and its last line.
-fn put_rest<W: Write>(
-    writer: &mut W,
-    out: &mut [u8],
-    answers: &[u8],
-    stated: usize,
-    tally: Tally,
-) -> Place {
-    let input = tally.input;
-    let wrong = tally.wrong;
-    let answered = put_answers(writer, out, stated, answers, tally.done);
-    let used = put_end(writer, out, answered, input, wrong);
-    Place {
-        input,
-        used,
-        more: tally.right,
-    }
-}
-
-// A session whose first line is right: its calls, then the open list, the state and the rest.
-fn run_session<R: Read, W: Write>(
-    reader: &mut R,
-    buffer: &mut [u8],
-    line: &mut [u8],
-    writer: &mut W,
-    out: &mut [u8],
-    bytes: &mut [u8],
-    queries: &mut [u32],
-    answers: &mut [u8],
-    at: Place,
-    h: Header,
-) -> Place {
-    let input = at.input;
-    let caps = h.caps;
-    let mut tally = first_tally(input, at.used);
-    let mut s = State::new();
-    let mut turns = h.calls;
-    while 0 < turns {
-        let before = tally.input;
-        let output = tally.output;
-        let progress = s.progress;
-        let next = next_line(reader, buffer, line, before);
-        let n = played_length(next.long, next.length, line.len());
-        let p = play(
-            writer,
-            out,
-            output,
-            h.commands,
-            bytes,
-            queries,
-            &line[..n],
-            caps,
-            s,
-        );
-        let past = p.next;
-        let printed = p.output;
-        let answer = p.answer;
-        let outcome = answer.outcome;
-        let after = answer.state;
-        let reached = after.progress;
-        let call = call_of(progress, reached, past, printed, outcome);
-        tally = told(writer, out, bytes, queries, answers, tally, next, call);
-        s = state_after(tally.right, s, after);
-        turns = turns_left(turns, !tally.right);
-    }
-    let last = s.progress;
-    let listed = put_open_list(writer, out, bytes, queries, tally, last);
-    let stated = put_state(writer, out, listed, s);
-    put_rest(writer, out, answers, stated, tally)
-}
-
-// The first line of the next session: where the reading stands after it, whether there is a session
-// and its first line is right, and what that line says.
-#[derive(Clone, Copy)]
-struct Opening {
-    place: Place,
-    header: Header,
-}
-
-// What is wrong with a first line is printed, where there is one.
-fn put_refusal<W: Write>(
-    writer: &mut W,
-    out: &mut [u8],
-    used: usize,
-    input: Input,
-    wrong: Cursor,
-) -> usize {
-    if input.there & (!is_right(wrong)) {
-        return put_error(writer, out, used, input.number, wrong);
-    }
-    used
-}
-
-// The next session's first line is read.
-fn open<R: Read, W: Write>(
-    reader: &mut R,
-    buffer: &mut [u8],
-    line: &mut [u8],
-    writer: &mut W,
-    out: &mut [u8],
-    at: Place,
-    most: usize,
-) -> Opening {
-    let before = at.input;
-    let input = next_line(reader, buffer, line, before);
-    let n = within(input.length, line.len());
-    let header = take_header(&line[..n], most);
-    let wrong = header.next;
-    let used = put_refusal(writer, out, at.used, input, wrong);
-    let place = Place {
-        input,
-        used,
-        more: input.there & is_right(wrong),
-    };
-    Opening { place, header }
-}
-
-// A session, where there is one more.
+// The next session, where there is one more: its calls, what ends it, and its last line.
 fn session<R: Read, W: Write>(
-    reader: &mut R,
-    buffer: &mut [u8],
-    line: &mut [u8],
-    writer: &mut W,
-    out: &mut [u8],
+    lines: &mut Lines<R>,
+    out: &mut Printer<W>,
     bytes: &mut [u8],
     queries: &mut [u32],
     answers: &mut [u8],
-    at: Place,
-) -> Place {
-    let opening = open(reader, buffer, line, writer, out, at, answers.len());
-    let place = opening.place;
-    let h = opening.header;
-    if !place.more {
-        return place;
-    }
-    let b = within(h.bytes, bytes.len());
-    let q = within(h.queries, queries.len());
-    run_session(
-        reader,
-        buffer,
-        line,
-        writer,
-        out,
-        &mut bytes[..b],
-        &mut queries[..q],
-        answers,
-        place,
-        h,
-    )
+) -> Result<bool, WrongLine> {
+    let Some(first) = lines.next() else {
+        return Ok(false);
+    };
+    let number = first.number;
+    let header = take_header(&mut Line::new(first.bytes), answers.len()).map_err(|wrong| WrongLine {
+        number,
+        wrong,
+    })?;
+    let marked = header.bytes.min(bytes.len());
+    let asked = header.queries.min(queries.len());
+    let mut session = Session::new(header, &mut bytes[..marked], &mut queries[..asked], answers);
+    let played = play_lines(lines, out, &mut session, header.calls);
+    session.put_end(out);
+    played?;
+    out.end_session();
+    Ok(true)
 }
 
-fn main(rt: HostRuntime) {
-    let mut reader = rt.stdin();
-    let mut writer = rt.stdout();
+// The calls of a session, up to the first line that is wrong.
+fn play_lines<R: Read, W: Write>(
+    lines: &mut Lines<R>,
+    out: &mut Printer<W>,
+    session: &mut Session,
+    calls: usize,
+) -> Result<(), WrongLine> {
+    for _ in 0..calls {
+        let text = lines.required();
+        let number = text.number;
+        session
+            .call(out, text)
+            .map_err(|wrong| WrongLine { number, wrong })?;
+    }
+    Ok(())
+}
+
+// Room for the longest line that is read; apart from `main`, whose check would count its bytes.
+fn line_room() -> [u8; 524288] {
+    [0; 524288]
+}
+
+fn main(rt: HostRuntime) -> io::Result<()> {
     let mut buffer = [0u8; 65536];
-    let mut line = [0u8; 524288];
-    let mut out = [0u8; 65536];
+    let mut line = line_room();
+    let mut lines = Lines::new(rt.stdin(), &mut buffer, &mut line);
+    let mut out = Printer::new(BufWriter::with_capacity(rt.alloc(), 65536, rt.stdout())?);
     let mut bytes = [0u8; 65536];
     let mut queries = [0u32; 1024];
     let mut answers = [0u8; 65536];
-    let mut at = Place {
-        input: new_input(),
-        used: 0,
-        more: true,
-    };
-    let mut turns = MAX_TURNS;
-    while 0 < turns {
-        at = session(
-            &mut reader,
-            &mut buffer,
-            &mut line,
-            &mut writer,
-            &mut out,
-            &mut bytes,
-            &mut queries,
-            &mut answers,
-            at,
-        );
-        turns = turns_left(turns, !at.more);
+    for _ in 0..MAX_TURNS {
+        match session(&mut lines, &mut out, &mut bytes, &mut queries, &mut answers) {
+            Ok(true) => {}
+            Ok(false) => break,
+            Err(WrongLine { number, wrong }) => {
+                out.put_error(number, &wrong);
+                break;
+            }
+        }
     }
-    flush(&mut writer, &out, at.used);
+    let _ = out.flush();
+    Ok(())
 }

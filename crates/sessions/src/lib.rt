@@ -1,7 +1,6 @@
-// Reading sessions in the flat form: lines of a reader's bytes, a session's first line, and whether a
-// line is right.
+// Reading sessions in the flat form: lines of a reader's bytes, and a session's first line.
 #![tactic(auto)]
 
 pub mod header;
-pub mod input;
-pub mod verdict;
+pub mod lines;
+pub mod wrong;

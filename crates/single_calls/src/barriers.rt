@@ -7,7 +7,8 @@ ghost use Rattle.single_calls.specs.One.{OneOf};
 ghost use Rattle.calls.specs.Step.{transition_textures_meaning};
 ghost use Rattle.calls.specs.Transfers.{texture_uses};
 
-use crate::one::{OnePlan, one_answer, plan_one, record_one};
+use crate::one::{OnePlan, one_answer, plan_one};
+use calls::batch::record;
 use calls::phase::{in_open, run_asks};
 use records::check::{broken_limits, within};
 use records::command::{Command, Record};
@@ -35,11 +36,10 @@ fn texture_use(run: &[u32], i: usize) -> u32
 fn texture_uses(run: &[u32], count: usize) -> u32
     ensures { result ≡ texture_uses (take (2 * count) run.now) }
 {
-    let mut left = within(count, run.len() / 2);
+    let n = within(count, run.len() / 2);
     let mut uses: u32 = 0;
-    while 0 < left {
-        left = left - 1;
-        uses = texture_use(run, left) | uses;
+    for i in (0..n).rev() {
+        uses = texture_use(run, i) | uses;
     }
     uses
 }
@@ -80,6 +80,6 @@ pub fn transition_textures(
     ensures { Lists caps s (transition_textures (record { run = barriers.now; count = count })) list.old result list.new }
 {
     let plan = plan_transition_textures(barriers, list.len(), count, caps, s);
-    record_one(list, plan);
+    record(list, &plan.batch);
     one_answer(plan, s)
 }

@@ -1,11 +1,11 @@
 // The two dispatch calls, and the clearing of a buffer: one command or none.
-ghost use Rattle.std.specs.Prelude.{◌≡◌};
 ghost use Rattle.calls.specs.Call.{clear_buffer, dispatch_workgroups, dispatch_workgroups_indirect};
 ghost use Rattle.calls.specs.Did.{Lists};
 ghost use Rattle.single_calls.specs.One.{OneOf};
 ghost use Rattle.calls.specs.Step.{clear_buffer_meaning, dispatch_workgroups_meaning, dispatch_workgroups_indirect_meaning};
 
-use crate::one::{OnePlan, one_answer, plan_one, record_one};
+use crate::one::{OnePlan, one_answer, plan_one};
+use calls::batch::record;
 use calls::phase::{in_compute, in_open, in_phase, in_phase_with};
 use records::args::Buffer;
 use records::check::broken_limits;
@@ -50,7 +50,7 @@ pub fn clear_buffer(
     ensures { Lists caps s (clear_buffer buffer range) list.old result list.new }
 {
     let plan = plan_clear_buffer(list.len(), caps, s, buffer, range);
-    record_one(list, plan);
+    record(list, &plan.batch);
     one_answer(plan, s)
 }
 
@@ -83,7 +83,7 @@ pub fn dispatch_workgroups(
     ensures { Lists caps s (dispatch_workgroups x y z) list.old result list.new }
 {
     let plan = plan_dispatch_workgroups(list.len(), caps, s, x, y, z);
-    record_one(list, plan);
+    record(list, &plan.batch);
     one_answer(plan, s)
 }
 
@@ -123,6 +123,6 @@ pub fn dispatch_workgroups_indirect(
     ensures { Lists caps s (dispatch_workgroups_indirect buffer offset) list.old result list.new }
 {
     let plan = plan_dispatch_workgroups_indirect(list.len(), caps, s, buffer, offset);
-    record_one(list, plan);
+    record(list, &plan.batch);
     one_answer(plan, s)
 }

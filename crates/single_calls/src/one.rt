@@ -1,18 +1,16 @@
-// Calls of one command: the plan, and how it is written into the list. The contracts cite
-// specs/One.antt.
-ghost use Rattle.std.specs.Prelude.{ℕ, ◌+◌, ◌<◌, ◌≤◌, ◌≡◌, length};
+// Calls of one command: the plan and its batch. The contracts cite specs/One.antt.
+ghost use Rattle.std.specs.Prelude.{◌<◌, ◌≡◌, length};
 ghost use Rattle.records.specs.Check.{broken_limits};
 ghost use Rattle.records.specs.declared.command.Command.{Command};
-ghost use Rattle.walks.specs.Fill.{filled};
-ghost use Rattle.calls.specs.Did.{record_of};
 ghost use Rattle.calls.specs.Planned.{listed, moved};
 ghost use Rattle.pipeline.specs.Fixed.{only};
 ghost use Rattle.single_calls.specs.One.{OneFor, one_answer};
 
+use calls::batch::Batch;
 use calls::judge::{commands_only, judge, list_rooms, spot_of};
 use calls::parts::{with_draw, with_progress};
 use records::check::Broken;
-use records::command::{Command, Record};
+use records::command::Command;
 use records::outcome::{Conditions, Outcome};
 use records::state::{Answer, DrawState, Progress, State};
 
@@ -32,41 +30,26 @@ pub struct OnePlan {
     pub outcome: Outcome,
 }
 
-pub fn one_command(batch: One, i: usize) -> Command
-    requires { i < 1 }
-    ensures { result ≡ batch.command }
-{
-    batch.command
-}
+impl Batch for One {
+    ghost place_of = { λ b. b.at };
 
-fn fill_one(list: &mut [Record], at: usize, n: usize, batch: One)
-    requires { (at + n ≤ length list.old) × ((i : ℕ) → i < n → i < 1) }
-    ensures { list.new ≡ filled (λ i. record_of batch.command) list.old at n }
-{
-    let mut i: usize = 0;
-    while i < n {
-        let c = one_command(batch, i);
-        list[at + i] = Record { command: c };
-        i += 1;
+    ghost count_of = { λ b. b.n };
+
+    ghost Allowed = { λ b i. i < 1 };
+
+    ghost command_at = { λ b i. b.command };
+
+    fn at(&self) -> usize {
+        self.at
     }
-}
 
-fn one_batch(plan: OnePlan) -> One
-    ensures { result ≡ plan.batch }
-{
-    plan.batch
-}
+    fn count(&self) -> usize {
+        self.n
+    }
 
-fn one_at(batch: One) -> usize
-    ensures { result ≡ batch.at }
-{
-    batch.at
-}
-
-fn one_count(batch: One) -> usize
-    ensures { result ≡ batch.n }
-{
-    batch.n
+    fn command(&self, i: usize) -> Command {
+        self.command
+    }
 }
 
 pub fn one_answer(plan: OnePlan, s: State) -> Answer
@@ -78,16 +61,6 @@ pub fn one_answer(plan: OnePlan, s: State) -> Answer
     Answer { outcome, state }
 }
 
-pub(crate) fn record_one(list: &mut [Record], plan: OnePlan)
-    requires { (plan.batch.at + plan.batch.n ≤ length list.old) × ((i : ℕ) → i < plan.batch.n → i < 1) }
-    ensures { list.new ≡ filled (λ i. record_of plan.batch.command) list.old plan.batch.at plan.batch.n }
-{
-    let batch = one_batch(plan);
-    let at = one_at(batch);
-    let n = one_count(batch);
-    fill_one(list, at, n, batch);
-}
-
 // One command, or none.
 fn count_of(some: bool) -> usize
     ensures { (c : Command) → result ≡ length (only some c) }
@@ -97,6 +70,7 @@ fn count_of(some: bool) -> usize
 
 // The plan of a call that stays in its phase, leaves the state as it is, and records the command
 // where `some` says so. `broken` has the limits that the state breaks.
+// `some` beside the command, no `Option`: `only` of the contract takes the two apart.
 pub(crate) fn plan_one(
     room: usize,
     broken: Broken,

@@ -5,7 +5,8 @@ ghost use Rattle.calls.specs.Did.{Keeps, Lists};
 ghost use Rattle.single_calls.specs.One.{OneOf};
 ghost use Rattle.calls.specs.Step.{begin_query_meaning, end_query_meaning, write_timestamp_meaning};
 
-use crate::one::{OnePlan, one_answer, plan_one, record_one};
+use crate::one::{OnePlan, one_answer, plan_one};
+use calls::batch::record;
 use calls::judge::{judge, no_rooms, nothing};
 use calls::parts::with_progress;
 use calls::phase::{not_closed, run_asks};
@@ -15,6 +16,8 @@ use records::command::{Command, Record};
 use records::pipeline::PrivateCapabilities;
 use records::state::{Answer, State};
 
+// The count beside its run: one above the run is refused (condition 7), which a slice could not
+// say.
 pub fn plan_begin_query(
     set: &[u32],
     room: usize,
@@ -48,7 +51,7 @@ pub fn begin_query(
     ensures { Lists caps s (begin_query (record { queries = record { run = set.now; count = count }; target = target }) index) list.old result list.new }
 {
     let plan = plan_begin_query(set, list.len(), count, target, caps, s, index);
-    record_one(list, plan);
+    record(list, &plan.batch);
     one_answer(plan, s)
 }
 
@@ -84,7 +87,7 @@ pub fn end_query(
     ensures { Lists caps s (end_query (record { queries = record { run = set.now; count = count }; target = target }) index) list.old result list.new }
 {
     let plan = plan_end_query(set, list.len(), count, target, caps, s, index);
-    record_one(list, plan);
+    record(list, &plan.batch);
     one_answer(plan, s)
 }
 
@@ -121,7 +124,7 @@ pub fn write_timestamp(
     ensures { Lists caps s (write_timestamp (record { queries = record { run = set.now; count = count }; target = target }) index) list.old result list.new }
 {
     let plan = plan_write_timestamp(set, list.len(), count, target, caps, s, index);
-    record_one(list, plan);
+    record(list, &plan.batch);
     one_answer(plan, s)
 }
 

@@ -6,7 +6,8 @@ ghost use Rattle.single_calls.specs.One.{OneOf};
 ghost use Rattle.calls.specs.Settings.{viewport_rect, scissor_rect, indexed as indexed_of};
 ghost use Rattle.calls.specs.Step.{set_index_buffer_meaning, set_viewport_meaning, set_scissor_rect_meaning, set_blend_constants_meaning};
 
-use crate::one::{One, OnePlan, one_answer, plan_one, record_one};
+use crate::one::{One, OnePlan, one_answer, plan_one};
+use calls::batch::record;
 use calls::judge::{commands_only, judge, list_rooms, spot_of};
 use calls::phase::{in_phase, in_phase_with, in_render};
 use numbers::{as_i32, trunc_i32};
@@ -27,6 +28,8 @@ fn viewport_rect(r: RectF32) -> RectI32
     }
 }
 
+// List, board and state are parameters of each call (state by value, the list lent): a struct would
+// ask callers for another type.
 pub fn plan_set_viewport(
     room: usize,
     caps: PrivateCapabilities,
@@ -61,7 +64,7 @@ pub fn set_viewport(
     ensures { Lists caps s (set_viewport rect depth) list.old result list.new }
 {
     let plan = plan_set_viewport(list.len(), caps, s, rect, depth);
-    record_one(list, plan);
+    record(list, &plan.batch);
     one_answer(plan, s)
 }
 
@@ -101,7 +104,7 @@ pub fn set_scissor_rect(
     ensures { Lists caps s (set_scissor_rect rect) list.old result list.new }
 {
     let plan = plan_set_scissor_rect(list.len(), caps, s, rect);
-    record_one(list, plan);
+    record(list, &plan.batch);
     one_answer(plan, s)
 }
 
@@ -129,7 +132,7 @@ pub fn set_blend_constants(
     ensures { Lists caps s (set_blend_constants color) list.old result list.new }
 {
     let plan = plan_set_blend_constants(list.len(), caps, s, color);
-    record_one(list, plan);
+    record(list, &plan.batch);
     one_answer(plan, s)
 }
 
@@ -137,16 +140,15 @@ pub fn set_blend_constants(
 fn indexed(ok: bool, d: DrawState, offset: u64, format: IndexFormat) -> DrawState
     ensures { result ≡ cond ok (indexed_of offset format d) d }
 {
-    let location = d.first_instance_location;
     if ok {
-        return DrawState {
-            topology: d.topology,
+        DrawState {
             index_format: format,
             index_offset: offset,
-            first_instance_location: location,
-        };
+            ..d
+        }
+    } else {
+        d
     }
-    d
 }
 
 pub fn plan_set_index_buffer(
@@ -194,6 +196,6 @@ pub fn set_index_buffer(
     ensures { Lists caps s (set_index_buffer buffer offset format) list.old result list.new }
 {
     let plan = plan_set_index_buffer(list.len(), caps, s, buffer, offset, format);
-    record_one(list, plan);
+    record(list, &plan.batch);
     one_answer(plan, s)
 }

@@ -1,14 +1,13 @@
--- The flags of the counted attributes, one by one. Assumes nothing.
-use Prim.Native.Nat.{ℕ, zero, suc, ◌≤◌, ◌<◌, min}
-use mathlib.Core.Path.{◌≡◌, refl, ap, ◌∙◌}
-use mathlib.Core.Bool.{Bool, false}
+-- The flags of the attributes, one by one. Assumes nothing.
+use Prim.Native.Nat.{ℕ, zero, suc, ◌<◌}
+use mathlib.Core.Path.{◌≡◌, refl, ap}
+use mathlib.Core.Bool.{Bool}
 use mathlib.Core.List.{List, [], ◌∷◌, map}
 use native.Mathlib.Nat.{not-suc-le-zero, le_of_suc-le-suc}
-use native.Mathlib.Omega.{arith}
-use lib.ListN.{length, take, get_or, length-take, length-map}
-use lib.Seq.{get_or-take, take_all}
-use Rattle.mask.specs.Mask.{test_bit, set_bit_if, mask_of}
-use Rattle.mask.specs.Laws.{mask-suc}
+use lib.ListN.{length, get_or}
+use Rattle.tables.specs.Tabulate.{tabulate}
+use Rattle.mask.specs.Mask.{test_bit, mask_of}
+use Rattle.mask.specs.By.{mask_by}
 use Rattle.records.specs.declared.command.AttributeDesc.{AttributeDesc}
 use Rattle.slots.specs.Sent.{sent_flags}
 
@@ -17,20 +16,12 @@ map_at f [] i d e h = absurd (not-suc-le-zero h)
 map_at f (x ∷ l) zero d e h = refl
 map_at f (x ∷ l) (suc i) d e h = map_at f l i d e (le_of_suc-le-suc h)
 
-module _ (m : ℕ) (l : List AttributeDesc) (count n : ℕ) (k : length l ≡ n) where
-  abbrev flags : List Bool
-  flags = sent_flags m (take count l)
+table_of : (m : ℕ) (l : List AttributeDesc) (d : AttributeDesc) → tabulate (length l) (λ i. test_bit m (get_or l i d).buffer_index) ≡ sent_flags m l
+unfolding tabulate
+table_of m [] d = refl
+table_of m (a ∷ l) d = ap (λ (bs : List Bool). test_bit m a.buffer_index ∷ bs) (table_of m l d)
 
-  long : length flags ≡ min count n
-  long = length-map (take count l) (λ (a : AttributeDesc). test_bit m a.buffer_index) ∙ omega (arith, length-take count l)
-
-  pub flag-next : (i : ℕ) (d : AttributeDesc) → i < min count n → i < 32
-      → mask_of (take (suc i) flags) ≡ set_bit_if (test_bit m (get_or l i d).buffer_index) (mask_of (take i flags)) i
-  flag-next i d h w =
-      mask-suc flags i (omega (arith, long)) w
-      ∙ ap (λ (b : Bool). set_bit_if b (mask_of (take i flags)) i)
-      (map_at (λ (a : AttributeDesc). test_bit m a.buffer_index) (take count l) i d false (omega (arith, length-take count l))
-      ∙ ap (λ (a : AttributeDesc). test_bit m a.buffer_index) (get_or-take count l i d (omega arith)))
-
-  pub flags-end : (i : ℕ) → min count n ≤ i → mask_of (take i flags) ≡ mask_of flags
-  flags-end i h = ap mask_of (take_all i flags (omega (arith, long)))
+-- the places in the list of the attributes whose slot is in m
+pub flags-by : (m : ℕ) (l : List AttributeDesc) (d : AttributeDesc) → mask_by (length l) (λ i. test_bit m (get_or l i d).buffer_index) ≡ mask_of (sent_flags m l)
+unfolding mask_by
+flags-by m l d = ap mask_of (table_of m l d)

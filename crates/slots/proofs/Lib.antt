@@ -1,6 +1,5 @@
 pub mod Flags
 pub mod Limits
-pub mod Masks
 pub mod Parts
 pub mod Places
 pub mod Product

@@ -1,5 +1,5 @@
 -- Vertex slots at a draw: document 01, "Vertex slots at a draw"; `prepare_draw` and `rebind_vertex_data` of gles/command.rs. Definitions only.
-use Rattle.std.specs.Prelude.{ℕ, ◌+◌, ◌*◌, ◌^◌, Bool, cond, not, ◌&&◌, List, [], ◌∷◌, map, eqb, ltb, get_or}
+use Rattle.std.specs.Prelude.{ℕ, ◌+◌, ◌*◌, ◌^◌, Bool, cond, not, ◌&&◌, List, [], ◌∷◌, map, eqb, ltb, get_or, Some}
 use Rattle.std.specs.Int.Bits.{bit_and, bit_or}
 use Rattle.tables.specs.Tabulate.{tabulate}
 use Rattle.mask.specs.Mask.{test_bit, without, places}
@@ -7,7 +7,6 @@ use Rattle.mask.specs.By.{mask_by}
 use Rattle.records.specs.Check.{some?, among}
 use Rattle.records.specs.declared.command.Command.{Command}
 use Rattle.records.specs.declared.command.Command.TheVariants.{SetVertexBuffer, SetVertexAttribute}
-use Rattle.records.specs.declared.command.OptionU32.TheVariants.{Some}
 use Rattle.records.specs.declared.command.VertexStepMode.{VertexStepMode}
 use Rattle.records.specs.declared.command.VertexStepMode.TheVariants.{Vertex, Instance}
 use Rattle.records.specs.declared.command.VertexBufferDesc.{VertexBufferDesc}

@@ -1,6 +1,5 @@
 -- The vertex part of the state, read by slot: its description and its binding. Definitions only.
-use Rattle.std.specs.Prelude.{ℕ, Bool, true, false, cond, List, get_or, take}
-use Rattle.std.proofs.Math.Option.{Option, none, some}
+use Rattle.std.specs.Prelude.{ℕ, Bool, true, false, cond, List, get_or, take, Option, None, Some}
 use Rattle.mask.specs.Mask.{test_bit}
 use Rattle.records.specs.Start.{start_slot}
 use Rattle.records.specs.declared.command.VertexStepMode.{VertexStepMode}
@@ -24,11 +23,11 @@ slot_at v i = get_or v.buffers i start_slot
 
 -- the description of slot i, if it has one
 abbrev pub desc_at : VertexState → ℕ → Option VertexBufferDesc
-desc_at v i = cond (test_bit v.described i) (some (record { step = step_of (test_bit v.by_instance i); stride = (slot_at v i).stride })) none
+desc_at v i = cond (test_bit v.described i) (Some (record { step = step_of (test_bit v.by_instance i); stride = (slot_at v i).stride })) None
 
 -- the binding of slot i, if it has one
 abbrev pub binding_at : VertexState → ℕ → Option BufferBinding
-binding_at v i = cond (test_bit v.bound i) (some (record { raw = (slot_at v i).raw; offset = (slot_at v i).offset })) none
+binding_at v i = cond (test_bit v.bound i) (Some (record { raw = (slot_at v i).raw; offset = (slot_at v i).offset })) None
 
 -- the working instance that slot i was last bound with, in this pass
 abbrev pub instance_at : VertexState → ℕ → ℕ

@@ -6,10 +6,9 @@ ghost use Rattle.slots.specs.Prepare.{buffer_command, attribute_command, slot_ov
 ghost use Rattle.slots.specs.Place.{within, Stands};
 ghost use Rattle.slots.specs.Sent.{prepared_places};
 
-use crate::{slot_at, slot_offset, step_of};
-use records::check::within as at_most;
-use records::command::{AttributeDesc, BufferBinding, Command, OptionU32, VertexBufferDesc};
-use records::limits::MAX_VERTEX_ATTRIBUTES;
+use crate::{low_sum, slot_at, slot_offset, step_of};
+use records::check::counted;
+use records::command::{AttributeDesc, BufferBinding, Command, VertexBufferDesc};
 use records::pipeline::PrivateCapabilities;
 use records::state::VertexState;
 
@@ -28,24 +27,7 @@ fn slot_desc(v: VertexState, i: u32) -> VertexBufferDesc
 fn sum_of(offset: u64, more: u64) -> u64
     ensures { result ≡ within (2 ^ 64) (offset + more) }
 {
-    if 18446744073709551615 - offset < more {
-        0
-    } else {
-        offset + more
-    }
-}
-
-fn low_sum(own: u32, offset: u64, more: u64) -> u32
-    ensures { result ≡ within (2 ^ 32) (own + offset + more) }
-{
-    if 4294967295 < offset {
-        return 0;
-    }
-    if 4294967295 < more {
-        return 0;
-    }
-    let sum = (own as u64) + offset + more;
-    if sum < 4294967296 { sum as u32 } else { 0 }
+    offset.checked_add(more).unwrap_or(0)
 }
 
 fn buffer_command(v: VertexState, w: u32, i: u32) -> Command
@@ -72,11 +54,11 @@ fn attribute_command(v: VertexState, w: u32, a: AttributeDesc) -> Command
     let desc = slot_desc(v, a.buffer_index);
     let format_desc = a.format_desc;
     Command::SetVertexAttribute {
-        buffer: OptionU32::Some(slot.raw),
+        buffer: Some(slot.raw),
         buffer_desc: desc,
         attribute_desc: AttributeDesc {
             location: a.location,
-            offset: low_sum(a.offset, slot.offset, more),
+            offset: low_sum(a.offset, slot.offset, more).unwrap_or(0),
             buffer_index: a.buffer_index,
             format_desc,
         },
@@ -86,14 +68,11 @@ fn attribute_command(v: VertexState, w: u32, a: AttributeDesc) -> Command
 fn attribute_at(v: VertexState, i: u32) -> AttributeDesc
     ensures { result ≡ get_or (attributes_of v) i start_attribute }
 {
-    let at = i as usize;
-    let n = at_most(v.attribute_count, MAX_VERTEX_ATTRIBUTES);
-    if at < n {
-        let attributes = v.attributes;
-        attributes[at]
-    } else {
-        AttributeDesc::new()
-    }
+    let attributes = v.attributes;
+    counted(&attributes, v.attribute_count)
+        .get(i as usize)
+        .copied()
+        .unwrap_or(AttributeDesc::new())
 }
 
 // Command number k of a draw's, by the places that `prepare` gives.

@@ -2,7 +2,7 @@
 // are worked out by count and place. The contracts cite specs/Prepare.antt.
 #![tactic(auto)]
 
-ghost use Rattle.std.specs.Prelude.{◌≡◌};
+ghost use Rattle.std.specs.Prelude.{◌+◌, ◌^◌, ◌<◌, ◌≡◌, SomeIff};
 ghost use Rattle.slots.specs.Vertex.{slot_at, step_of};
 ghost use Rattle.slots.specs.Prepare.{working as working_of, moved as moved_of, woken as woken_of, instance_offset, slot_offset, slot_over, attribute_over};
 ghost use Rattle.mask.specs.Mask.{digit_of};
@@ -34,16 +34,9 @@ fn moved(v: VertexState, w: u32) -> u32
         return 0;
     }
     let instances = v.instances;
-    let mut slots: u32 = 0;
-    let mut i: u32 = 0;
-    while i < 16 {
-        let at = i as usize;
-        let own = instances[at];
-        let differs = mask::test(v.instance_vbuf_mask, i) & (w != own);
-        slots = mask::set_if(slots, i, differs);
-        i = i + 1;
-    }
-    slots
+    mask::mask_where(16, |i| {
+        mask::test(v.instance_vbuf_mask, i) & (w != instances[i as usize])
+    })
 }
 
 // The dirty mask at a draw.
@@ -56,13 +49,11 @@ pub(crate) fn woken(v: VertexState, w: u32) -> u32
 pub fn slot_at(v: VertexState, i: u32) -> VertexSlot
     ensures { result ≡ slot_at v i }
 {
-    if i < 16 {
-        let at = i as usize;
-        let buffers = v.buffers;
-        buffers[at]
-    } else {
-        VertexSlot::new()
-    }
+    let buffers = v.buffers;
+    buffers
+        .get(i as usize)
+        .copied()
+        .unwrap_or(VertexSlot::new())
 }
 
 pub fn step_of(by_instance: bool) -> VertexStepMode
@@ -89,6 +80,14 @@ pub(crate) fn instance_offset(by_instance: bool, w: u32, stride: u32) -> u64
     step_digit(by_instance) * (w as u64) * (stride as u64)
 }
 
+// The sum, where it is a `u32`.
+pub(crate) fn low_sum(own: u32, offset: u64, more: u64) -> Option<u32>
+    ensures { SomeIff result (own + offset + more < 2 ^ 32) (own + offset + more) }
+{
+    let sum = offset.checked_add(more)?.checked_add(own as u64)?;
+    u32::try_from(sum).ok()
+}
+
 // How far slot i is moved on.
 pub(crate) fn slot_offset(v: VertexState, w: u32, i: u32) -> u64
     ensures { result ≡ slot_offset v w i }
@@ -103,7 +102,7 @@ pub(crate) fn slot_over(v: VertexState, w: u32, i: u32) -> bool
 {
     let slot = slot_at(v, i);
     let more = slot_offset(v, w, i);
-    (4294967295 < more) | (18446744073709551615 - slot.offset < more)
+    u32::try_from(more).is_err() || slot.offset.checked_add(more).is_none()
 }
 
 // Condition 6 of an attribute, without layouts.
@@ -112,11 +111,5 @@ pub(crate) fn attribute_over(v: VertexState, w: u32, a: AttributeDesc) -> bool
 {
     let slot = slot_at(v, a.buffer_index);
     let more = slot_offset(v, w, a.buffer_index);
-    if 4294967295 < more {
-        return true;
-    }
-    if 4294967295 < slot.offset {
-        return true;
-    }
-    4294967295 < (a.offset as u64) + slot.offset + more
+    u32::try_from(more).is_err() || low_sum(a.offset, slot.offset, more).is_none()
 }

@@ -1,32 +1,26 @@
 // What a draw records before its own command: how many commands, whether a sum leaves its field,
 // and which slots lose their dirty bit.
 ghost use Rattle.std.specs.Prelude.{◌≡◌, ◌<◌, cond, length};
+ghost use Rattle.std.specs.List.{list_any};
 ghost use Rattle.mask.specs.Mask.{mask_of, places};
-ghost use Rattle.records.specs.Check.{some?};
 ghost use Rattle.slots.specs.Vertex.{attributes_of};
 ghost use Rattle.slots.specs.Prepare.{slot_over, cleared, prepared, prepared_over, prepared_state, remembered as remembered_of};
 ghost use Rattle.slots.specs.Sent.{sent_flags, prepared_places};
 ghost use Rattle.slots.specs.Sweep.{sweep_one, swept};
 
 use crate::{attribute_over, slot_over, woken};
-use records::check::within;
+use records::check::counted;
 use records::command::AttributeDesc;
-use records::limits::{MAX_VERTEX_ATTRIBUTES, MAX_VERTEX_BUFFERS};
+use records::limits::MAX_VERTEX_BUFFERS;
 use records::pipeline::PrivateCapabilities;
 use records::state::VertexState;
+use std::array;
 
 // Whether a slot of m is over, with layouts.
 fn slots_over(v: VertexState, w: u32, m: u32) -> bool
-    ensures { result ≡ some? (slot_over v w) (places m) }
+    ensures { result ≡ list_any (slot_over v w) (places m) }
 {
-    let mut left = m;
-    let mut over = false;
-    while 0 < left {
-        let i = mask::lowest(left);
-        over = over | slot_over(v, w, i);
-        left = mask::rest(left);
-    }
-    over
+    mask::visit(m).any(|i| slot_over(v, w, i))
 }
 
 // What has been found of the attributes gone through: how many are to be sent, their slots, and
@@ -57,17 +51,15 @@ fn sweep_attribute(m: u32, v: VertexState, w: u32, s: Sweep, a: AttributeDesc) -
 fn sweep_attributes(v: VertexState, w: u32, m: u32) -> Sweep
     ensures { result ≡ swept m v w (attributes_of v) }
 {
-    let mut left = within(v.attribute_count, MAX_VERTEX_ATTRIBUTES);
+    let held = v.attributes;
+    let attributes = counted(&held, v.attribute_count);
     let mut sweep = Sweep {
         count: 0,
         slots: 0,
         over: false,
     };
-    let attributes = v.attributes;
-    while 0 < left {
-        left = left - 1;
-        let a = attributes[left];
-        sweep = sweep_attribute(m, v, w, sweep, a);
+    for i in (0..attributes.len()).rev() {
+        sweep = sweep_attribute(m, v, w, sweep, attributes[i]);
     }
     sweep
 }
@@ -76,17 +68,11 @@ fn sweep_attributes(v: VertexState, w: u32, m: u32) -> Sweep
 fn sent_attributes(v: VertexState, m: u32) -> u32
     ensures { result ≡ mask_of (sent_flags m (attributes_of v)) }
 {
-    let n = within(v.attribute_count, MAX_VERTEX_ATTRIBUTES);
-    let mut sent: u32 = 0;
-    let mut i: usize = 0;
-    let attributes = v.attributes;
-    while i < n {
-        let a = attributes[i];
-        let takes = mask::test(m, a.buffer_index);
-        sent = mask::set_if(sent, i as u32, takes);
-        i = i + 1;
-    }
-    sent
+    let held = v.attributes;
+    let attributes = counted(&held, v.attribute_count);
+    mask::mask_where(attributes.len() as u32, |i| {
+        mask::test(m, attributes[i as usize].buffer_index)
+    })
 }
 
 // What a draw's slots come to: how many commands, the slots or attributes that get one, the dirty
@@ -136,20 +122,11 @@ pub fn remembered(instances: [u32; MAX_VERTEX_BUFFERS], m: u32, w: u32) -> [u32;
     if m == 0 {
         return instances;
     }
-    let mut next = instances;
-    let mut i: u32 = 0;
-    while i < 16 {
-        let at = i as usize;
-        let own = next[at];
-        let number = chosen(mask::test(m, i), w, own);
-        next[at] = number;
-        i = i + 1;
-    }
-    next
-}
-
-fn chosen(bound: bool, new: u32, old: u32) -> u32
-    ensures { result ≡ cond bound new old }
-{
-    if bound { new } else { old }
+    array::from_fn(|i| {
+        if mask::test(m, i as u32) {
+            w
+        } else {
+            instances[i]
+        }
+    })
 }

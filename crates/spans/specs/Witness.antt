@@ -1,5 +1,5 @@
 -- Answers of one state at several spans, and draws from it, worked out. Assumes nothing.
-use Rattle.std.specs.Prelude.{ℕ, ◌≡◌, refl, Bool, true, false, List, [], ◌∷◌, map, replicate}
+use Rattle.std.specs.Prelude.{ℕ, ◌≡◌, refl, Bool, true, false, List, [], ◌∷◌, map, replicate, None}
 use Rattle.tables.specs.Tabulate.{tabulate}
 use Rattle.mask.specs.Mask.{test_bit, mask_of, places_from}
 use Rattle.mask.specs.By.{mask_by}
@@ -8,7 +8,6 @@ use Rattle.records.specs.Outcome.{smallest}
 use Rattle.records.specs.Start.{start_slot, start_attribute, start_state}
 use Rattle.records.specs.declared.command.Command.{Command}
 use Rattle.records.specs.declared.command.Command.TheVariants.{SetVertexBuffer, Draw}
-use Rattle.records.specs.declared.command.OptionU32.TheVariants.{None}
 use Rattle.records.specs.declared.command.VertexStepMode.{VertexStepMode}
 use Rattle.records.specs.declared.command.VertexStepMode.TheVariants.{Vertex, Instance}
 use Rattle.records.specs.declared.outcome.Outcome.{Outcome}

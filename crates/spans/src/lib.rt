@@ -4,7 +4,7 @@
 
 ghost use Rattle.std.specs.Prelude.{◌≡◌};
 ghost use Rattle.spans.specs.Span.{SpanOf, SmallestOf, span_number, refusal as refusal_of};
-ghost use Rattle.spans.specs.Place.{always_mask, sometimes_mask};
+ghost use Rattle.spans.specs.Place.{wakes, always_mask, sometimes_mask};
 
 use calls::judge::{accepted, no_rooms};
 use records::check::{broken_limits, over_room};
@@ -13,7 +13,8 @@ use records::pipeline::PrivateCapabilities;
 use records::state::{State, VertexState};
 use slots::working;
 
-// The masks, or why there are none.
+// The masks, or why there are none: one enum, since `SpanOf` and `span_number` (specs/Span.antt) name
+// these three answers.
 #[derive(Clone, Copy)]
 pub enum Span {
     // Slots rebound for every number of the span, and for at least one.
@@ -24,38 +25,31 @@ pub enum Span {
     Reversed,
 }
 
-#[derive(Clone, Copy)]
-struct Pair {
-    pub always: u32,
-    pub sometimes: u32,
+// A slot that is dirty, or steps by instance and moves; described and bound.
+fn wakes(v: VertexState, moves: bool, i: u32) -> bool
+    ensures { result ≡ wakes v moves i }
+{
+    ((mask::test(v.dirty_vbuf_mask, i) | (mask::test(v.instance_vbuf_mask, i) & moves))
+        & mask::test(v.described, i))
+        & mask::test(v.bound, i)
 }
 
+// The slots rebound for every number of the span, and for at least one.
 // By the working instances at the two ends of the span.
-fn masks(v: VertexState, low: u32, high: u32) -> Pair
-    ensures { (result.always ≡ always_mask v low high) × (result.sometimes ≡ sometimes_mask v low high) }
+fn masks(v: VertexState, low: u32, high: u32) -> (u32, u32)
+    ensures { (result.0 ≡ always_mask v low high) × (result.1 ≡ sometimes_mask v low high) }
 {
-    let instances = v.instances;
-    let mut always: u32 = 0;
-    let mut sometimes: u32 = 0;
-    let mut i: u32 = 0;
-    while i < 16 {
-        let at = i as usize;
-        let own = instances[at];
-        let dirty = mask::test(v.dirty_vbuf_mask, i);
-        let steps = mask::test(v.instance_vbuf_mask, i);
-        let described = mask::test(v.described, i);
-        let bound = mask::test(v.bound, i);
+    let always = mask::mask_where(16, |i| {
+        let own = v.instances[i as usize];
         let outside = (own < low) | (high < own);
+        wakes(v, outside, i)
+    });
+    let sometimes = mask::mask_where(16, |i| {
+        let own = v.instances[i as usize];
         let apart = !((low == own) & (high == own));
-        always = mask::set_if(always, i, ((dirty | (steps & outside)) & described) & bound);
-        sometimes = mask::set_if(
-            sometimes,
-            i,
-            ((dirty | (steps & apart)) & described) & bound,
-        );
-        i = i + 1;
-    }
-    Pair { always, sometimes }
+        wakes(v, apart, i)
+    });
+    (always, sometimes)
 }
 
 // What turns a broken state away; no phase is asked for, and no run is lent.
@@ -63,18 +57,15 @@ fn refusal(s: State) -> Outcome
     ensures { result ≡ refusal_of s }
 {
     let broken = broken_limits(s);
-    let p = s.progress;
-    let rooms = no_rooms();
-    let c = Conditions {
+    outcome_of(Conditions {
         phase: false,
         many: broken.many,
         range: broken.range,
         absent: false,
         kind: broken.kind,
         sum: false,
-        room: over_room(p, rooms),
-    };
-    outcome_of(c)
+        room: over_room(s.progress, no_rooms()),
+    })
 }
 
 // The slots that a draw rebinds whose first instance lies from `lower` to `upper`, both included.
@@ -89,11 +80,10 @@ pub fn rebound_span(caps: PrivateCapabilities, s: State, lower: u32, upper: u32)
     if upper < lower {
         return Span::Reversed;
     }
-    let vertex = s.vertex;
     let low = working(caps, lower);
     let high = working(caps, upper);
-    let m = masks(vertex, low, high);
-    Span::Masks(m.always, m.sometimes)
+    let (always, sometimes) = masks(s.vertex, low, high);
+    Span::Masks(always, sometimes)
 }
 
 // The number of an answer: 0 where there are masks.

@@ -5,26 +5,17 @@ use native.Mathlib.Nat.{le_of_suc-le-suc, not-suc-le-zero, add-zero, zero-add}
 use mathlib.Core.Path.{◌≡◌, refl, sym, ap, ◌∙◌, subst}
 use mathlib.Core.Bool.{Bool, true, false, cond}
 use mathlib.Core.List.{List, [], ◌∷◌, ◌++◌, map}
+use Rattle.std.specs.Prelude.{IfSome}
 use lib.Dec.{T, ltb, lit<}
-use lib.ListN.{length, take, drop, get_or}
+use lib.ListN.{length, take, drop, get_or, length-take}
 use lib.Seq.{drop-cons}
-use mir.Val.{Val}
-use denote.Laws.{Is}
-use denote.Struct.Declared.{row}
 use borrow.Author.Tests.{lt-ltb, le-ltb}
 use Rattle.records.specs.declared.command.ColorTargetDesc.{ColorTargetDesc}
-use Rattle.records.specs.declared.command.OptionBlend.{OptionBlend}
-use Rattle.records.specs.declared.command.OptionBlend.TheVariants.{None, Some}
-use Rattle.records.specs.declared.state.FixedState.{FixedState}
-use Rattle.records.specs.declared.state.ImmediateState.{ImmediateState}
+use Rattle.std.specs.Prelude.{Option, None, Some}
+use Rattle.names.specs.declared.gl.BlendDesc.{BlendDesc}
 use Rattle.records.specs.declared.state.State.{State}
-use Rattle.records.specs.declared.state.VertexState.{VertexState}
-use Rattle.records.specs.contracts.state.FixedState.{the_type as the_fixed}
-use Rattle.records.specs.contracts.state.ImmediateState.{the_type as the-immediates}
-use Rattle.records.specs.contracts.state.VertexState.{the_type as the-vertex}
 use Rattle.text.specs.declared.field.Field.{Field}
 use Rattle.text.specs.declared.field.Shown.{Shown}
-use Rattle.state_text.specs.declared.rows.Told.{Told}
 use Rattle.text.specs.declared.field.Word.TheVariants.{State as state_word}
 use Rattle.state_text.specs.declared.state.Place.{Place}
 use Rattle.names.specs.Ascii.{ascii}
@@ -35,61 +26,42 @@ use Rattle.state_text.specs.Told.{told_line}
 use Rattle.state_text.specs.State.{StateRow, state_rows, state_line, line_at, row_line, target_fields}
 use Rattle.state_text.specs.Told.{told_of, TellsRow, no_row, row_at, row_places, place_in}
 
-abbrev told : Bool → Shown → Told
-told b s = record { there = b; shown = s }
-
-pub shown-is : (b : Bool) {x y : Shown} → x ≡ y → told b x ≡ told b y
-shown-is b e = ap (told b) e
-
-pub told_is : {b d : Bool} {x y : Shown} → b ≡ d → x ≡ y → told b x ≡ told d y
-told_is {x = x} {y = y} p e = ap (λ c. told c x) p ∙ shown-is _ e
-
--- ---- arrays
--- field 1
-pub targets-long : (s : FixedState) (vs : List Val) → Is (row the_fixed) s vs → length s.color_targets ≡ 8
-targets-long s vs g = g.1.1.1.0.1.0.1
-
--- field 2
-pub words_long : (s : ImmediateState) (vs : List Val) → Is (row the-immediates) s vs → length s.words ≡ 64
-words_long s vs g = g.1.1.1.1.0.1.0.1
-
--- field 5
-pub instances-long : (s : VertexState) (vs : List Val) → Is (row the-vertex) s vs → length s.instances ≡ 16
-instances-long s vs g = g.1.1.1.1.1.1.1.0.1.0.1
-
--- within a list the default is of no account
-pub within : {A : Type 0} (l : List A) (i : ℕ) (d e : A) → i < length l → get_or l i d ≡ get_or l i e
-within [] i d e h = absurd (not-suc-le-zero h)
-within (x ∷ l) zero d e h = refl
-within (x ∷ l) (suc i) d e h = within l i d e (le_of_suc-le-suc h)
-
 -- ---- what is shown
-padded-list : (n : ℕ) (fs : List Field) → length fs ≤ n → map (λ i. i.is) (take (length fs) (padded n fs)) ≡ fs
-padded-list zero [] h = refl
-padded-list zero (f ∷ fs) h = absurd (not-suc-le-zero h)
-padded-list (suc n) [] h = refl
-padded-list (suc n) (f ∷ fs) h = ap (λ t. f ∷ t) (padded-list n fs (le_of_suc-le-suc h))
+padded-list : (n : ℕ) (fs : List Field) → take (length (take n fs)) (padded n fs) ≡ take n fs
+padded-list zero fs = refl
+padded-list (suc n) [] = refl
+padded-list (suc n) (f ∷ fs) = ap (λ t. f ∷ t) (padded-list n fs)
+
+take-all : (n : ℕ) (fs : List Field) → length fs ≤ n → take n fs ≡ fs
+take-all zero [] h = refl
+take-all zero (f ∷ fs) h = absurd (not-suc-le-zero h)
+take-all (suc n) [] h = refl
+take-all (suc n) (f ∷ fs) h = ap (λ t. f ∷ t) (take-all n fs (le_of_suc-le-suc h))
 
 line_of : (b : Bool) (n : ℕ) (name : List ℕ) (fs : List Field) → length fs < 15 → name_at n ≡ 32 ∷ name
     → told_line (told_of b n fs) ≡ cond b (ascii "state " ++ (name ++ (spaced fs ++ (10 ∷ [])))) []
-line_of b n name fs h e =
-    ap (λ x. cond b (word_text state_word ++ (x ++ (spaced (list_of (built n (length fs) fs)) ++ (10 ∷ [])))) []) e
-    ∙ ap (λ x. cond b (ascii "state " ++ (name ++ (spaced x ++ (10 ∷ [])))) []) (padded-list 14 fs (le_of_suc-le-suc h))
+line_of false n name fs h e = refl
+line_of true n name fs h e =
+    ap (λ x. word_text state_word ++ (x ++ (spaced (list_of (built n (length (take 14 fs)) fs)) ++ (10 ∷ [])))) e
+    ∙ ap (λ x. ascii "state " ++ (name ++ (spaced x ++ (10 ∷ [])))) (padded-list 14 fs ∙ take-all 14 fs (le_of_suc-le-suc h))
+
+if-there : (b : Bool) (n : ℕ) (fs : List Field) → n < 74 → IfSome (told_of b n fs) (λ s. (s.name < 74) × (s.count ≤ 14))
+if-there false n fs h = tt
+if-there true n fs h = (h, simp length-take (omega arith))
 
 -- what is built of a row's place shows it
-pub tells : (r : StateRow) (i n : ℕ) {t : Told} → t ≡ told_of (r.there i) n (r.fields i) → T (ltb n 74) → length (r.fields i) < 15
+pub tells : (r : StateRow) (i n : ℕ) {t : Option Shown} → t ≡ told_of (r.there i) n (r.fields i) → T (ltb n 74) → length (r.fields i) < 15
     → name_at n ≡ 32 ∷ ascii r.name → TellsRow r i t
 tells r i n e w h m =
     record {
-      named = rw e (lit< w);
-      within = rw e (le_of_suc-le-suc h);
+      within = rw e (if-there (r.there i) n (r.fields i) (lit< w));
       line = ap told_line e ∙ line_of (r.there i) n (ascii r.name) (r.fields i) h m;
     }
 
-pub at_row : (s : State) (i : ℕ) {row r : ℕ} {t : Told} → row ≡ r → TellsRow (row_at s r) i t → TellsRow (row_at s row) i t
+pub at_row : (s : State) (i : ℕ) {row r : ℕ} {t : Option Shown} → row ≡ r → TellsRow (row_at s r) i t → TellsRow (row_at s row) i t
 at_row s i {t = t} e h = subst (λ x. TellsRow (row_at s x) i t) (sym e) h
 
-blend-short : (b : OptionBlend) → length (blend_fields b) < 14
+blend-short : (b : Option BlendDesc) → length (blend_fields b) < 14
 blend-short None = lit< tt
 blend-short (Some b) = lit< tt
 

@@ -1,11 +1,9 @@
 -- States of tools/oracle/data/sessions.out, each line computed from the state. Assumes nothing.
-use Rattle.std.specs.Prelude.{ℕ, ◌≡◌, refl, true, false, ◌++◌, pos, negsuc, replicate, set}
+use Rattle.std.specs.Prelude.{ℕ, ◌≡◌, refl, true, false, ◌++◌, pos, negsuc, replicate, set, None, Some}
 use Prim.Native.String.{String}
 use Rattle.mask.specs.Mask.{test_bit}
 use Rattle.names.specs.Start.{start_primitive_state, start_stencil_state}
 use Rattle.records.specs.Start.{start_state, start_attribute, start_extent, start_slot, start_target, start_texture_slot, start_view, start_resolve, start_progress, start_immediate, start_immediates}
-use Rattle.records.specs.declared.command.OptionU32.TheVariants.{None, Some}
-use Rattle.records.specs.declared.command.OptionBlend.TheVariants.{Some as some_blend}
 use Rattle.records.specs.declared.command.VertexAttribKind.TheVariants.{Integer}
 use Rattle.records.specs.declared.state.IndexFormat.TheVariants.{Uint16, Uint32}
 use Rattle.records.specs.declared.state.State.{State}
@@ -149,7 +147,7 @@ some =
                 (record {
                   mask = 15;
                   blend =
-                      some_blend
+                      Some
                       (record { alpha = record { src = 770; dst = 771; equation = 32774 }; color = record { src = 770; dst = 771; equation = 32776 } });
                 });
             color_target_count = 1;

@@ -1,8 +1,8 @@
 -- What the contracts inside the crate say of a place of the state: which row it is in, and what is shown of it. Assumes nothing.
-use Rattle.std.specs.Prelude.{ℕ, suc, ◌+◌, ◌-◌, ◌≤◌, ◌<◌, ◌≡◌, refl, Bool, false, cond, List, [], ◌∷◌, ◌++◌, map, ltb, length, get_or}
+use Rattle.std.specs.Prelude.{ℕ, suc, ◌+◌, ◌-◌, ◌≤◌, ◌<◌, ◌≡◌, refl, Bool, false, cond, List, [], ◌∷◌, ◌++◌, map, ltb, length, take, get_or, Option, None, Some, IfSome}
 use Rattle.records.specs.declared.state.State.{State}
 use Rattle.text.specs.declared.field.Field.{Field}
-use Rattle.state_text.specs.declared.rows.Told.{Told}
+use Rattle.text.specs.declared.field.Shown.{Shown}
 use Rattle.state_text.specs.declared.state.Place.{Place}
 use Rattle.text.specs.Shown.{built}
 use Rattle.text.specs.declared.field.Word.TheVariants.{State as state_word}
@@ -10,18 +10,18 @@ use Rattle.text.specs.Field.{word_text}
 use Rattle.text.specs.Put.{body_of}
 use Rattle.state_text.specs.State.{StateRow, state_rows, row_line, state_count}
 
--- what is shown by a place among the names and up to 14 fields
-abbrev pub told_of : Bool → ℕ → List Field → Told
-told_of there name fields = record { there = there; shown = built name (length fields) fields }
+-- what is shown by a place among the names and up to 14 fields, where it is there
+abbrev pub told_of : Bool → ℕ → List Field → Option Shown
+told_of there name fields = cond there (Some (built name (length (take 14 fields)) fields)) None
 
 -- the line of what is shown of a place of the state
-abbrev pub told_line : Told → List ℕ
-told_line t = cond t.there (word_text state_word ++ body_of t.shown) []
+abbrev pub told_line : Option Shown → List ℕ
+told_line None = []
+told_line (Some s) = word_text state_word ++ body_of s
 
 -- t shows place i of a row
-pub record TellsRow (row : StateRow) (i : ℕ) (t : Told) : Type 0 where
-  pub named : t.shown.name < 74
-  pub within : t.shown.count ≤ 14
+pub record TellsRow (row : StateRow) (i : ℕ) (t : Option Shown) : Type 0 where
+  pub within : IfSome t (λ s. (s.name < 74) × (s.count ≤ 14))
   pub line : told_line t ≡ row_line row i
 
 -- no row

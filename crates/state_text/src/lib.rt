@@ -1,5 +1,5 @@
 // The state as lines of text: the printed form of tools/oracle/README.md. The contracts cite
-// specs/State.antt for the lines, and `Wrote` of the crate text for what is done with them.
+// specs/State.antt for the lines, and text/specs/Wrote.antt for what is done with them.
 #![tactic(auto)]
 
 ghost use Rattle.std.specs.Prelude.{◌≡◌, ◌+◌, ◌≤◌, length};
@@ -16,13 +16,13 @@ mod vertex;
 
 use crate::state::{put_state_line, state_length};
 use records::state::State;
-use text::{Wrote, paste};
+use text::paste;
 
 // How many places the state's lines have: the lines are numbered from 0 to 374.
 pub const STATE_PLACES: u32 = 375;
 
 // Writes the state's line k, where it is there, into `out` from `at` on, whole or not at all.
-pub(crate) fn write_state_line(out: &mut [u8], at: usize, s: State, k: u32) -> Wrote
+pub(crate) fn write_state_line(out: &mut [u8], at: usize, s: State, k: u32) -> Option<usize>
     ensures { (out.new ≡ pasted out.old at (state_line s k)) × (result ≡ wrote_of out.old at (state_line s k)) }
 {
     let mut line = [0u8; 384];
@@ -31,18 +31,14 @@ pub(crate) fn write_state_line(out: &mut [u8], at: usize, s: State, k: u32) -> W
 }
 
 // Writes the state's lines into `out` from `at` on, whole or not at all.
-pub fn write_state(out: &mut [u8], at: usize, s: State) -> Wrote
+pub fn write_state(out: &mut [u8], at: usize, s: State) -> Option<usize>
     ensures { (out.new ≡ pasted out.old at (state_text s)) × (result ≡ wrote_of out.old at (state_text s)) }
 {
     let total = state_length(s);
-    if out.len() < at {
-        return Wrote::NoRoom;
+    if out.len() < at || out.len() - at < total {
+        return None;
     }
-    if out.len() - at < total {
-        return Wrote::NoRoom;
-    }
-    let end = write_lines(out, at, s);
-    Wrote::Next(end)
+    Some(write_lines(out, at, s))
 }
 
 // The state's lines, where there is room for them.
@@ -51,10 +47,8 @@ fn write_lines(out: &mut [u8], at: usize, s: State) -> usize
     ensures { (out.new ≡ laid out.old at (state_text s)) × (result ≡ at + length (state_text s)) }
 {
     let mut i = at;
-    let mut k: u32 = 0;
-    while k < STATE_PLACES {
+    for k in 0..STATE_PLACES {
         i = write_next(out, i, s, k);
-        k += 1;
     }
     i
 }
@@ -64,9 +58,5 @@ fn write_next(out: &mut [u8], at: usize, s: State, k: u32) -> usize
     requires { at + length (state_line s k) ≤ length out.old }
     ensures { (out.new ≡ laid out.old at (state_line s k)) × (result ≡ at + length (state_line s k)) }
 {
-    let wrote = write_state_line(out, at, s, k);
-    match wrote {
-        Wrote::Next(i) => i,
-        Wrote::NoRoom => at,
-    }
+    write_state_line(out, at, s, k).unwrap_or(at)
 }

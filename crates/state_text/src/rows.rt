@@ -1,20 +1,28 @@
 // What is shown of a place of the state, and the rows of one field and of the draws. The first
-// argument of a builder is the place of the row's name, 49 for the first row of specs/State.antt, the
-// second the number of its fields.
-ghost use Rattle.std.specs.Prelude.{◌≡◌, true, false, [], ◌∷◌};
+// argument of a builder is the place of the row's name, 49 for the first row of specs/State.antt.
+ghost use Rattle.std.specs.Prelude.{◌≡◌, true, [], ◌∷◌, get_or};
 ghost use Rattle.text.specs.declared.field.Field.TheVariants.{Number, Flag, Optional};
 ghost use Rattle.state_text.specs.State.{or_dash, is_uint32, index_fields};
 ghost use Rattle.state_text.specs.Told.{told_of};
 
-use records::command::OptionU32;
 use records::state::{DrawState, IndexFormat};
-use text::field::{Field, Shown, one, two};
+use text::field::{Field, Shown};
 
-// What is shown of a place of the state, where it is there.
-#[derive(Clone, Copy)]
-pub struct Told {
-    pub there: bool,
-    pub shown: Shown,
+// What is shown of a place, where it is there.
+pub(crate) fn row<const N: usize>(there: bool, name: usize, fields: [Field; N]) -> Option<Shown>
+    ensures { result ≡ told_of there name fields.entry }
+{
+    if there {
+        return Some(Shown::new(name, fields));
+    }
+    None
+}
+
+// Element i, or what stands for those past the end.
+pub(crate) fn at<T: Copy>(items: &[T], i: u32, start: T) -> T
+    ensures { result ≡ get_or items.now i start }
+{
+    items.get(i as usize).copied().unwrap_or(start)
 }
 
 pub(crate) fn or_dash(there: bool, field: Field) -> Field
@@ -32,47 +40,29 @@ fn is_uint32(format: IndexFormat) -> bool
     }
 }
 
-pub(crate) fn nothing() -> Told
-    ensures { result ≡ told_of false 49 [] }
-{
-    let shown = one(49, 0, Field::Absent);
-    Told {
-        there: false,
-        shown,
-    }
-}
-
 // A row of one number, of one flag, and of one number that may be missing.
-pub(crate) fn number(name: usize, n: u32) -> Told
+pub(crate) fn number(name: usize, n: u32) -> Option<Shown>
     ensures { result ≡ told_of true name (Number n ∷ []) }
 {
-    let shown = one(name, 1, Field::Number(n));
-    Told { there: true, shown }
+    row(true, name, [Field::Number(n)])
 }
 
-pub(crate) fn flag(name: usize, b: bool) -> Told
+pub(crate) fn flag(name: usize, b: bool) -> Option<Shown>
     ensures { result ≡ told_of true name (Flag b ∷ []) }
 {
-    let shown = one(name, 1, Field::Flag(b));
-    Told { there: true, shown }
+    row(true, name, [Field::Flag(b)])
 }
 
-pub(crate) fn optional(name: usize, o: OptionU32) -> Told
+pub(crate) fn optional(name: usize, o: Option<u32>) -> Option<Shown>
     ensures { result ≡ told_of true name (Optional o ∷ []) }
 {
-    let shown = one(name, 1, Field::Optional(o));
-    Told { there: true, shown }
+    row(true, name, [Field::Optional(o)])
 }
 
-pub(crate) fn index(d: DrawState) -> Told
+pub(crate) fn index(d: DrawState) -> Option<Shown>
     ensures { result ≡ told_of true 51 (index_fields d) }
 {
     let format = d.index_format;
-    let shown = two(
-        51,
-        2,
-        Field::Flag(is_uint32(format)),
-        Field::Long(d.index_offset),
-    );
-    Told { there: true, shown }
+    let fields = [Field::Flag(is_uint32(format)), Field::Long(d.index_offset)];
+    row(true, 51, fields)
 }

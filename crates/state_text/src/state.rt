@@ -1,5 +1,5 @@
 // The places of the state's rows, counted through, and what is shown of each.
-ghost use Rattle.std.specs.Prelude.{◌≡◌, ◌≤◌, ◌<◌, length, get_or};
+ghost use Rattle.std.specs.Prelude.{◌≡◌, ◌≤◌, ◌<◌, length, get_or, IfSome};
 ghost use Rattle.text.specs.Put.{Put};
 ghost use Rattle.state_text.specs.State.{state_line, state_text};
 ghost use Rattle.state_text.specs.Told.{told_line, TellsRow, row_at, row_places, place_in};
@@ -9,13 +9,13 @@ use crate::bind::{sampler, unit};
 use crate::fixed::{bias, color_target, primitive, stencil};
 use crate::immediates::{descriptor, word};
 use crate::pass::{invalidate, render_size, resolve};
-use crate::rows::{Told, flag, index, nothing, number, optional};
+use crate::rows::{flag, index, number, optional};
 use crate::vertex::{attribute, instance, masks, slot};
 use records::state::State;
-use text::field::Word;
+use text::field::{Shown, Word};
 use text::put::{put_shown, put_word};
 
-// Place i of a row.
+// Place i of a row. Kept, rows by number: `row_at` of specs/Told.antt has them so.
 #[derive(Clone, Copy)]
 pub struct Place {
     pub row: usize,
@@ -37,21 +37,19 @@ fn row_places(row: usize) -> u32
 pub(crate) fn place_of(k: u32) -> Place
     ensures { (result ≡ place_in row_places 0 k) × (result.row ≤ 23) }
 {
-    let mut row = 0;
     let mut i = k;
-    while row < 23 {
+    for row in 0..23 {
         let places = row_places(row);
         if i < places {
             return Place { row, i };
         }
         i -= places;
-        row += 1;
     }
-    Place { row, i }
+    Place { row: 23, i }
 }
 
 // What is shown of place i of a row.
-pub(crate) fn told(s: State, row: usize, i: u32) -> Told
+pub(crate) fn told(s: State, row: usize, i: u32) -> Option<Shown>
     requires { row ≤ 23 }
     ensures { TellsRow (row_at s row) i result }
 {
@@ -83,19 +81,18 @@ pub(crate) fn told(s: State, row: usize, i: u32) -> Told
         20 => word(s.immediates, i),
         21 => optional(70, timestamp),
         22 => number(71, s.fixed.clip_distance_count),
-        _ => nothing(),
+        _ => None,
     }
 }
 
 // A line of the state, where it is there, at the end of `line`.
-fn put_told(line: &mut [u8], told: Told) -> usize
-    requires { (length line.old ≡ 384) × (told.shown.name < 74) × (told.shown.count ≤ 14) }
+fn put_told(line: &mut [u8], told: Option<Shown>) -> usize
+    requires { (length line.old ≡ 384) × IfSome told (λ s. (s.name < 74) × (s.count ≤ 14)) }
     ensures { Put (told_line told) line.old 384 line.new result }
 {
-    if !told.there {
+    let Some(shown) = told else {
         return 384;
-    }
-    let shown = told.shown;
+    };
     let i = put_shown(line, shown);
     put_word(line, i, Word::State)
 }
@@ -123,10 +120,8 @@ pub(crate) fn state_length(s: State) -> usize
     ensures { result ≡ length (state_text s) }
 {
     let mut total = 0;
-    let mut k: u32 = 0;
-    while k < STATE_PLACES {
+    for k in 0..STATE_PLACES {
         total += line_length(s, k);
-        k += 1;
     }
     total
 }

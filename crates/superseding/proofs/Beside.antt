@@ -2,7 +2,7 @@
 use Prim.Native.Nat.{ℕ, zero, suc}
 use mathlib.Core.Path.{◌≡◌, refl, sym, ap, ◌∙◌, fun_ext}
 use mathlib.Core.Bool.{Bool, true, false, cond, ◌&&◌, ◌||◌}
-use mathlib.Core.Option.{Option, none, some}
+use Rattle.std.specs.Prelude.{Option, None, Some}
 use lib.Dec.{eqb}
 use borrow.Author.Tests.{eqb-true, eq-eqb}
 use Rattle.records.specs.declared.command.BufferBinding.{BufferBinding}
@@ -17,8 +17,6 @@ use Rattle.records.specs.declared.command.Command.TheVariants.{UnsetVertexAttrib
 use Rattle.records.specs.declared.command.Command.TheVariants.{BindSampler, BindTexture, BindImage, PushDebugGroup, PopDebugGroup, SetImmediates, SetClipDistances}
 use Rattle.records.specs.declared.command.DepthBiasState.{DepthBiasState}
 use Rattle.records.specs.declared.command.DepthRange.{DepthRange}
-use Rattle.records.specs.declared.command.OptionU32.{OptionU32}
-use Rattle.records.specs.declared.command.OptionU32.TheVariants.{None, Some}
 use Rattle.records.specs.declared.command.RectI32.{RectI32}
 use Rattle.records.specs.declared.command.VertexBufferDesc.{VertexBufferDesc}
 use Rattle.machine.specs.Machine.{Vertices, Bindings, Screen, Fixed, Faces, Gl}
@@ -259,7 +257,7 @@ by-buffer i b d g (screen y) e = same-screen y g.screen
 by-buffer i b d g (fixed y) e = same-fixed y g.fixed
 by-buffer i b d g (face y) e = same-face y g.faces
 
-by-sampler : (u : ℕ) (s : OptionU32) (g : Gl) → Beside (binding (sampler u)) g (settings_after g (BindSampler u s))
+by-sampler : (u : ℕ) (s : Option ℕ) (g : Gl) → Beside (binding (sampler u)) g (settings_after g (BindSampler u s))
 by-sampler u s g (vertex y) e = same-vertex y g.vertices
 by-sampler u s g (binding (buffer t i)) e = refl
 by-sampler u s g (binding (texture i)) e = refl
@@ -363,8 +361,8 @@ no-face a b p q x s =
 
 -- what is to be known of a command by the setting that it is: it is about one thing; or it names nothing of the seven kinds
 abbrev pub Fact : Command → Option Thing → Type 0
-Fact c none = (x : Thing) → of_seven x ≡ true → names c x ≡ false
-Fact c (some x) = About c x × (of_seven x ≡ true)
+Fact c None = (x : Thing) → of_seven x ≡ true → names c x ≡ false
+Fact c (Some x) = About c x × (of_seven x ≡ true)
 
 pub fact : (c : Command) → Fact c (setting_of (class_of c))
 fact (Draw t fv vc fi ic l) = λ x s. refl

@@ -4,7 +4,7 @@ use mathlib.Core.Path.{◌≡◌, refl, sym, ◌∙◌, ap, ap₂}
 use mathlib.Core.Bool.{Bool, true, false, cond, ◌||◌}
 use mathlib.Core.List.{List, [], ◌∷◌, map}
 use mathlib.Core.Logic.{inl, inr}
-use mathlib.Core.Option.{Option, some}
+use Rattle.std.specs.Prelude.{Option, Some}
 use lib.ListN.{length}
 use Rattle.mask.specs.Laws.{test_zero, test-set}
 use Rattle.records.specs.declared.command.Command.{Command}
@@ -54,7 +54,7 @@ seen_from : List Command → Seen
 seen_from [] = nothing_seen
 seen_from (c ∷ cs) = seen_before (seen_from cs) (class_of c)
 
-seen-is : (cs : List Command) → Each Kept cs → (s : Mark) (x : Thing) → thing_at s ≡ some x → is_seen (seen_from cs) s ≡ replaced x cs
+seen-is : (cs : List Command) → Each Kept cs → (s : Mark) (x : Thing) → thing_at s ≡ Some x → is_seen (seen_from cs) s ≡ replaced x cs
 unfolding seen_from replaced
 seen-is [] k s x p = nothing_seen_lem s
 seen-is (c ∷ cs) k s x p = go (ends (class_of c)) (seen-is cs k.1 s x p)

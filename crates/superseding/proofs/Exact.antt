@@ -3,7 +3,7 @@ use mathlib.Core.Path.{◌≡◌, refl, sym, ap, ◌∙◌, subst}
 use mathlib.Core.Bool.{Bool, true, false, cond}
 use mathlib.Core.List.{List, [], ◌∷◌, ◌++◌}
 use mathlib.Core.Logic.{inl, inr}
-use mathlib.Core.Option.{Option, none, some}
+use Rattle.std.specs.Prelude.{Option, None, Some}
 use Rattle.records.specs.declared.command.Command.{Command}
 use Rattle.machine.specs.Each.{Each}
 use Rattle.machine.proofs.Lists.{true-false, false-true}
@@ -26,21 +26,21 @@ sets-unended Reset e = false-true e
 sets-unended (Sets t) e = refl
 sets-unended Other e = false-true e
 
-sets-names : (c : Command) (x : Thing) → setting c ≡ some x → names c x ≡ true
+sets-names : (c : Command) (x : Thing) → setting c ≡ Some x → names c x ≡ true
 sets-names c x e = (subst (Fact c) (sym (setting-is c) ∙ e) (fact c)).0.0 x ∙ is-self x
 
-names-sets : (c : Command) (x : Thing) → of_seven x ≡ true → names c x ≡ true → setting c ≡ some x
+names-sets : (c : Command) (x : Thing) → of_seven x ≡ true → names c x ≡ true → setting c ≡ Some x
 names-sets c x s n = setting-is c ∙ go (setting_of (class_of c)) (fact c)
   where
-    go : (o : Option Thing) → Fact c o → o ≡ some x
-    go none F = true-false (sym n ∙ F x s)
-    go (some y) F = ap some (sym (one y x (sym (F.0.0 x) ∙ n)))
+    go : (o : Option Thing) → Fact c o → o ≡ Some x
+    go None F = true-false (sym n ∙ F x s)
+    go (Some y) F = ap Some (sym (one y x (sym (F.0.0 x) ∙ n)))
 
 -- ---- where the later setting stands
 abbrev Later : Thing → List Command → Type 0
 Later x cs =
     (between : List Command) × (later : Command) × (after : List Command)
-    × (cs ≡ between ++ later ∷ after) × Each (λ (d : Command). ending d ≡ false) between × (setting later ≡ some x)
+    × (cs ≡ between ++ later ∷ after) × Each (λ (d : Command). ending d ≡ false) between × (setting later ≡ Some x)
 
 stands : (x : Thing) → of_seven x ≡ true → (cs : List Command) → replaced x cs ≡ true → Later x cs
 unfolding replaced
@@ -53,7 +53,7 @@ stands x s (c ∷ cs) q = go (ends (class_of c)) refl (names c x) refl q (stands
     go false e false m q ih = let l = ih q in (c ∷ l.0, l.1, l.2, ap (λ (k : List Command). c ∷ k) l.3, (ending-is c ∙ e, l.4), l.5)
 
 replaces : (x : Thing) (between : List Command) (later : Command) (after : List Command)
-    → Each (λ (d : Command). ending d ≡ false) between → setting later ≡ some x → replaced x (between ++ later ∷ after) ≡ true
+    → Each (λ (d : Command). ending d ≡ false) between → setting later ≡ Some x → replaced x (between ++ later ∷ after) ≡ true
 unfolding replaced
 replaces x [] later after u e =
     let a = sets-unended (class_of later) (ap is_some (sym (setting-is later) ∙ e)) in
@@ -76,8 +76,8 @@ pub so-superseded : (c : Command) (cs : List Command) → superseded c cs ≡ tr
 so-superseded c cs q = go (setting_of (class_of c)) refl (fact c) q
   where
     go : (o : Option Thing) → setting_of (class_of c) ≡ o → Fact c o → replaced_setting o cs ≡ true → Superseded c cs
-    go none e F q = false-true q
-    go (some x) e F q =
+    go None e F q = false-true q
+    go (Some x) e F q =
         let l = stands x F.1 cs q in
         record { thing = x; sets = setting-is c ∙ e; between = l.0; later = l.1; after = l.2; follow = l.3; unended = l.4; again = l.5 }
 

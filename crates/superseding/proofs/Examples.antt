@@ -10,7 +10,7 @@ use Rattle.records.specs.declared.command.Command.{Command}
 use Rattle.records.specs.declared.command.Command.TheVariants.{Draw, Dispatch, ClearBuffer, SetIndexBuffer, ResetFramebuffer, ResolveAttachment, SetDrawColorBuffers, ClearStencil}
 use Rattle.records.specs.declared.command.Command.TheVariants.{SetViewport, SetScissor, SetDepthBias, SetVertexBuffer, SetProgram, SetBlendConstant, BindSampler}
 use Rattle.records.specs.declared.command.Extent3d.{Extent3d}
-use Rattle.records.specs.declared.command.OptionU32.TheVariants.{None, Some}
+use Rattle.std.specs.Prelude.{None, Some}
 use Rattle.records.specs.declared.command.RectI32.{RectI32}
 use Rattle.records.specs.declared.command.TextureView.{TextureView}
 use Rattle.records.specs.declared.command.VertexStepMode.TheVariants.{Vertex}

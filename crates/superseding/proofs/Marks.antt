@@ -3,7 +3,7 @@ use Prim.Native.Nat.{zero, suc}
 use mathlib.Core.Path.{◌≡◌, refl, sym, ap, ◌∙◌, subst}
 use mathlib.Core.Bool.{Bool, true, false}
 use mathlib.Core.Logic.{◌⊎◌, inl, inr}
-use mathlib.Core.Option.{Option, none, some}
+use Rattle.std.specs.Prelude.{Option, None, Some}
 use lib.Dec.{eqb}
 use borrow.Author.Tests.{eqb-true, eq-eqb}
 use Rattle.records.specs.declared.command.Command.{Command}
@@ -62,15 +62,15 @@ same_none Nothing = refl
 
 -- ---- the thing of a mark, and the mark of a thing
 abbrev pub thing_at : Mark → Option Thing
-thing_at (VertexBuffer i) = some (vertex (vertex_buffer i))
-thing_at (Sampler u) = some (binding (sampler u))
-thing_at (Single zero) = some (screen blend_constants)
-thing_at (Single (suc zero)) = some (screen viewport)
-thing_at (Single (suc (suc zero))) = some (screen scissor)
-thing_at (Single (suc (suc (suc zero)))) = some (binding index_buffer)
-thing_at (Single (suc (suc (suc (suc zero))))) = some (fixed depth_bias)
-thing_at (Single (suc (suc (suc (suc (suc n)))))) = none
-thing_at Nothing = none
+thing_at (VertexBuffer i) = Some (vertex (vertex_buffer i))
+thing_at (Sampler u) = Some (binding (sampler u))
+thing_at (Single zero) = Some (screen blend_constants)
+thing_at (Single (suc zero)) = Some (screen viewport)
+thing_at (Single (suc (suc zero))) = Some (screen scissor)
+thing_at (Single (suc (suc (suc zero)))) = Some (binding index_buffer)
+thing_at (Single (suc (suc (suc (suc zero))))) = Some (fixed depth_bias)
+thing_at (Single (suc (suc (suc (suc (suc n)))))) = None
+thing_at Nothing = None
 
 mark_at : Thing → Mark
 mark_at (vertex (attribute l)) = Nothing
@@ -94,25 +94,25 @@ mark_at (fixed (clip_distance i)) = Nothing
 mark_at (face y) = Nothing
 
 abbrev pub is_some : Option Thing → Bool
-is_some none = false
-is_some (some x) = true
+is_some None = false
+is_some (Some x) = true
 
 -- a mark that has a thing: it is the thing's mark, it is the same as itself, and the thing is one of the seven kinds
 abbrev from_some : Thing → Option Thing → Thing
-from_some d none = d
-from_some d (some x) = x
+from_some d None = d
+from_some d (Some x) = x
 
 abbrev Marks : Mark → Thing → Type 0
 Marks s x = (mark_at x ≡ s) × (same s s ≡ true) × (of_seven x ≡ true)
 
-marks : (s : Mark) (x : Thing) → thing_at s ≡ some x → Marks s x
+marks : (s : Mark) (x : Thing) → thing_at s ≡ Some x → Marks s x
 unfolding mark_at
 marks s x e = go s e
   where
-    at : (s : Mark) (y : Thing) → some y ≡ some x → Marks s y → Marks s x
+    at : (s : Mark) (y : Thing) → Some y ≡ Some x → Marks s y → Marks s x
     at s y e m = subst (Marks s) (ap (from_some x) e) m
 
-    go : (s : Mark) → thing_at s ≡ some x → Marks s x
+    go : (s : Mark) → thing_at s ≡ Some x → Marks s x
     go (VertexBuffer i) e = at (VertexBuffer i) (vertex (vertex_buffer i)) e (refl, eq-eqb i i refl, refl)
     go (Sampler u) e = at (Sampler u) (binding (sampler u)) e (refl, eq-eqb u u refl, refl)
     go (Single zero) e = at (Single 0) (screen blend_constants) e (refl, refl, refl)
@@ -124,7 +124,7 @@ marks s x e = go s e
     go Nothing e = false-true (ap is_some e)
 
 -- two marks are the same where their things are
-same-thing : (s t : Mark) (x y : Thing) → thing_at s ≡ some x → thing_at t ≡ some y → same s t ≡ is x y
+same-thing : (s t : Mark) (x y : Thing) → thing_at s ≡ Some x → thing_at t ≡ Some y → same s t ≡ is x y
 same-thing s t x y p q = go (same s t) refl (is x y) refl
   where
     go : (a : Bool) → same s t ≡ a → (b : Bool) → is x y ≡ b → a ≡ b
@@ -141,7 +141,7 @@ same-thing s t x y p q = go (same s t) refl (is x y) refl
 
 -- ---- by the class of a command: its mark has the thing that it sets, or it has none
 abbrev pub Known : Class → Type 0
-Known k = ((mark_of k ≡ Nothing) × (setting_of k ≡ none)) ⊎ ((x : Thing) × (thing_at (mark_of k) ≡ some x) × (setting_of k ≡ some x))
+Known k = ((mark_of k ≡ Nothing) × (setting_of k ≡ None)) ⊎ ((x : Thing) × (thing_at (mark_of k) ≡ Some x) × (setting_of k ≡ Some x))
 
 by-thing : (t : class.Thing) → Known (Sets t)
 by-thing (Attribute l) = inl (refl, refl)
@@ -175,7 +175,7 @@ known (Sets t) = by-thing t
 known Other = inl (refl, refl)
 
 -- a command sets the mark of x where it names x
-pub same_names : (s : Mark) (x : Thing) → thing_at s ≡ some x → (c : Command) → same s (mark_of (class_of c)) ≡ names c x
+pub same_names : (s : Mark) (x : Thing) → thing_at s ≡ Some x → (c : Command) → same s (mark_of (class_of c)) ≡ names c x
 same_names s x p c = go (known (class_of c))
   where
     go : Known (class_of c) → same s (mark_of (class_of c)) ≡ names c x

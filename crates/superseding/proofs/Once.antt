@@ -5,7 +5,7 @@ use native.Mathlib.Omega.{arith}
 use mathlib.Core.Path.{◌≡◌, refl, sym, ap, ◌∙◌}
 use mathlib.Core.Bool.{Bool, true, false, cond, ◌||◌}
 use mathlib.Core.List.{List, [], ◌∷◌}
-use mathlib.Core.Option.{Option, none, some}
+use Rattle.std.specs.Prelude.{Option, None, Some}
 use lib.ListN.{length}
 use Rattle.records.specs.Check.{some?}
 use Rattle.records.specs.declared.command.Command.{Command}
@@ -29,8 +29,8 @@ replaced-still x (c ∷ cs) = pick (superseded c cs) refl (replaced-still x cs)
 
     -- its own successor is there
     there : (t : Bool) → names c x ≡ t → (o : Option Thing) → Fact c o → replaced_setting o cs ≡ true → replaced x cs ≡ cond t true (replaced x cs)
-    there true e none F q = false-true q
-    there true e (some y) F q = ap (λ (z : Thing). replaced z cs) (one y x (sym (F.0.0 x) ∙ e)) ∙ q
+    there true e None F q = false-true q
+    there true e (Some y) F q = ap (λ (z : Thing). replaced z cs) (one y x (sym (F.0.0 x) ∙ e)) ∙ q
     there false e o F q = refl
 
     pick : (t : Bool) → superseded c cs ≡ t → replaced x (trimmed cs) ≡ replaced x cs → replaced x (cond t (trimmed cs) (c ∷ trimmed cs)) ≡ rest
@@ -40,8 +40,8 @@ replaced-still x (c ∷ cs) = pick (superseded c cs) refl (replaced-still x cs)
         ∙ sym (ap (λ (t : Bool). cond t false (cond (names c x) true (replaced x cs))) (unended (class_of c) cs q))
 
 pub superseded-still : (o : Option Thing) (l : List Command) → replaced_setting o (trimmed l) ≡ replaced_setting o l
-superseded-still none l = refl
-superseded-still (some x) l = replaced-still x l
+superseded-still None l = refl
+superseded-still (Some x) l = replaced-still x l
 
 pub once : (l : List Command) → trimmed (trimmed l) ≡ trimmed l
 unfolding trimmed
@@ -59,8 +59,8 @@ same-others [] = refl
 same-others (c ∷ cs) = pick (superseded c cs) refl (same-others cs)
   where
     gone : (o : Option Thing) → replaced_setting o cs ≡ true → others cs ≡ unless o c (others cs)
-    gone none q = false-true q
-    gone (some x) q = refl
+    gone None q = false-true q
+    gone (Some x) q = refl
 
     pick : (t : Bool) → superseded c cs ≡ t → others (trimmed cs) ≡ others cs → others (cond t (trimmed cs) (c ∷ trimmed cs)) ≡ others (c ∷ cs)
     pick false q i = ap (unless (setting c) c) i

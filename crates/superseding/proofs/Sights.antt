@@ -2,7 +2,7 @@
 use mathlib.Core.Path.{◌≡◌, refl, sym, ap, ◌∙◌}
 use mathlib.Core.Bool.{Bool, true, false, cond}
 use mathlib.Core.List.{List, [], ◌∷◌, ◌++◌}
-use mathlib.Core.Option.{Option, none, some}
+use Rattle.std.specs.Prelude.{Option, None, Some}
 use Rattle.records.specs.declared.command.Command.{Command}
 use Rattle.machine.specs.Machine.{Gl, Shot}
 use Rattle.machine.proofs.Lists.{true-false, false-true}
@@ -83,8 +83,8 @@ same-sights (c ∷ cs) g = pick (superseded c cs) refl (same-sights cs g) (same-
   where
     -- it is superseded: the thing that it sets is set again
     dropped : (o : Option Thing) → Fact c o → replaced_setting o cs ≡ true → Shows cs g (settings_after g c)
-    dropped none F q = false-true q
-    dropped (some x) F q = drop x cs g (settings_after g c) (F.0.1 g) q
+    dropped None F q = false-true q
+    dropped (Some x) F q = drop x cs g (settings_after g c) (F.0.1 g) q
 
     pick : (t : Bool) → superseded c cs ≡ t → Same (trimmed cs) cs g → Same (trimmed cs) cs (settings_after g c) → Same (cond t (trimmed cs) (c ∷ trimmed cs)) (c ∷ cs) g
     pick false q i k = both-shown c cs g k

@@ -1,6 +1,5 @@
 -- The request's sentences of what `take_out_superseded` hands back, the answer r and the run afterwards: document 02, request 7. Definitions only.
-use Rattle.std.specs.Prelude.{◌≡◌, Bool, true, false, cond, List, [], ◌∷◌, ◌++◌, ◌⊎◌, drop}
-use Rattle.std.proofs.Math.Option.{Option, none, some}
+use Rattle.std.specs.Prelude.{◌≡◌, Bool, true, false, cond, List, [], ◌∷◌, ◌++◌, ◌⊎◌, drop, Option, None, Some}
 use Rattle.records.specs.declared.command.Command.{Command}
 use Rattle.records.specs.declared.command.Command.TheVariants.{Draw, DrawIndexed, DrawIndirect, DrawIndexedIndirect, Dispatch, DispatchIndirect, ClearBuffer, CopyBufferToBuffer}
 use Rattle.records.specs.declared.command.Command.TheVariants.{SetIndexBuffer, BeginQuery, EndQuery, TimestampQuery, CopyQueryResults, ResetFramebuffer, BindAttachment}
@@ -75,55 +74,55 @@ ending (SetClipDistances old n) = false
 
 -- "each blend constant, viewport, scissor, vertex buffer, sampler, index buffer or depth bias setting", with the thing of the machine that it sets
 abbrev pub setting : Command → Option Thing
-setting (Draw t fv vc fi ic l) = none
-setting (DrawIndexed t ty n o bv fi ic l) = none
-setting (DrawIndirect t raw o l) = none
-setting (DrawIndexedIndirect t ty raw o l) = none
-setting (Dispatch a b c) = none
-setting (DispatchIndirect raw o) = none
-setting (ClearBuffer raw t r) = none
-setting (CopyBufferToBuffer a b c d e) = none
-setting (SetIndexBuffer raw) = some (binding index_buffer)
-setting (BeginQuery q t) = none
-setting (EndQuery t) = none
-setting (TimestampQuery q) = none
-setting (CopyQueryResults a b c d) = none
-setting (ResetFramebuffer d) = none
-setting (BindAttachment a v d s) = none
-setting (ResolveAttachment a v s) = none
-setting (InvalidateAttachments s) = none
-setting (SetDrawColorBuffers n) = none
-setting (ClearColorF n c) = none
-setting (ClearColorU n c) = none
-setting (ClearColorI n c) = none
-setting (ClearDepth d) = none
-setting (ClearStencil s) = none
-setting (ClearDepthAndStencil d s) = none
-setting (BufferBarrier b u) = none
-setting (TextureBarrier u) = none
-setting (SetViewport r d) = some (screen viewport)
-setting (SetScissor r) = some (screen scissor)
-setting (SetStencilFunc side f r k) = none
-setting (SetStencilOps side w o) = none
-setting (SetDepth d) = none
-setting (SetDepthBias d) = some (fixed depth_bias)
-setting (ConfigureDepthStencil a) = none
-setting (SetAlphaToCoverage a) = none
-setting (SetVertexAttribute b d a) = none
-setting (UnsetVertexAttribute l) = none
-setting (SetVertexBuffer i b d) = some (vertex (vertex_buffer i))
-setting (SetProgram p) = none
-setting (SetPrimitive p) = none
-setting (SetBlendConstant c) = some (screen blend_constants)
-setting (SetColorTarget i t) = none
-setting (BindBuffer t i b o s) = none
-setting (BindSampler u s) = some (binding (sampler u))
-setting (BindTexture i t ta a mips) = none
-setting (BindImage i y) = none
-setting (PushDebugGroup r) = none
-setting PopDebugGroup = none
-setting (SetImmediates d o) = none
-setting (SetClipDistances old n) = none
+setting (Draw t fv vc fi ic l) = None
+setting (DrawIndexed t ty n o bv fi ic l) = None
+setting (DrawIndirect t raw o l) = None
+setting (DrawIndexedIndirect t ty raw o l) = None
+setting (Dispatch a b c) = None
+setting (DispatchIndirect raw o) = None
+setting (ClearBuffer raw t r) = None
+setting (CopyBufferToBuffer a b c d e) = None
+setting (SetIndexBuffer raw) = Some (binding index_buffer)
+setting (BeginQuery q t) = None
+setting (EndQuery t) = None
+setting (TimestampQuery q) = None
+setting (CopyQueryResults a b c d) = None
+setting (ResetFramebuffer d) = None
+setting (BindAttachment a v d s) = None
+setting (ResolveAttachment a v s) = None
+setting (InvalidateAttachments s) = None
+setting (SetDrawColorBuffers n) = None
+setting (ClearColorF n c) = None
+setting (ClearColorU n c) = None
+setting (ClearColorI n c) = None
+setting (ClearDepth d) = None
+setting (ClearStencil s) = None
+setting (ClearDepthAndStencil d s) = None
+setting (BufferBarrier b u) = None
+setting (TextureBarrier u) = None
+setting (SetViewport r d) = Some (screen viewport)
+setting (SetScissor r) = Some (screen scissor)
+setting (SetStencilFunc side f r k) = None
+setting (SetStencilOps side w o) = None
+setting (SetDepth d) = None
+setting (SetDepthBias d) = Some (fixed depth_bias)
+setting (ConfigureDepthStencil a) = None
+setting (SetAlphaToCoverage a) = None
+setting (SetVertexAttribute b d a) = None
+setting (UnsetVertexAttribute l) = None
+setting (SetVertexBuffer i b d) = Some (vertex (vertex_buffer i))
+setting (SetProgram p) = None
+setting (SetPrimitive p) = None
+setting (SetBlendConstant c) = Some (screen blend_constants)
+setting (SetColorTarget i t) = None
+setting (BindBuffer t i b o s) = None
+setting (BindSampler u s) = Some (binding (sampler u))
+setting (BindTexture i t ta a mips) = None
+setting (BindImage i y) = None
+setting (PushDebugGroup r) = None
+setting PopDebugGroup = None
+setting (SetImmediates d o) = None
+setting (SetClipDistances old n) = None
 
 -- ---- "Every draw and clear finds what it found before", a dispatch and a reset too: its command, and all that the machine holds
 pub record Sight : Type 0 where
@@ -136,8 +135,8 @@ sights g (c ∷ cs) = cond (ending c) (record { command = c; gl = g } ∷ sights
 
 -- ---- "no other command is taken out": the others, in their order
 abbrev pub unless : Option Thing → Command → List Command → List Command
-unless none c cs = c ∷ cs
-unless (some x) c cs = cs
+unless None c cs = c ∷ cs
+unless (Some x) c cs = cs
 
 unfoldable pub others : List Command → List Command
 others [] = []
@@ -146,14 +145,14 @@ others (c ∷ cs) = unless (setting c) c (others cs)
 -- ---- "take out each .. setting that the same thing's later setting replaces before any draw, pass clear, dispatch or framebuffer reset"
 pub record Superseded (c : Command) (cs : List Command) : Type 0 where
   pub thing : Thing
-  pub sets : setting c ≡ some thing
+  pub sets : setting c ≡ Some thing
   -- what follows: commands that are none of those, and then the later setting
   pub between : List Command
   pub later : Command
   pub after : List Command
   pub follow : cs ≡ between ++ later ∷ after
   pub unended : Each (λ (d : Command). ending d ≡ false) between
-  pub again : setting later ≡ some thing
+  pub again : setting later ≡ Some thing
 
 -- what is left of a list: each command that is not superseded, in its order
 unfoldable pub Left : List Command → List Command → Type 0

@@ -1,6 +1,5 @@
 -- Settings that a later one supersedes: document 02, request 7. Definitions only.
-use Rattle.std.specs.Prelude.{Bool, true, false, cond, List, [], ◌∷◌}
-use Rattle.std.proofs.Math.Option.{Option, none, some}
+use Rattle.std.specs.Prelude.{Bool, true, false, cond, List, [], ◌∷◌, Option, None, Some}
 use Rattle.records.specs.declared.command.Command.{Command}
 use Rattle.lists.specs.declared.class.Class.{Class}
 use Rattle.lists.specs.declared.class.Class.TheVariants.{Draw, Clear, Dispatch, Reset, Sets, Other}
@@ -12,36 +11,36 @@ use Rattle.lists.specs.Things.{Thing, vertex, binding, screen, fixed, vertex_buf
 
 -- "each blend constant, viewport, scissor, vertex buffer, sampler, index buffer or depth bias setting", with the thing of the machine that it sets
 abbrev pub thing_set : class.Thing → Option Thing
-thing_set (Attribute l) = none
-thing_set (VertexBuffer i) = some (vertex (vertex_buffer i))
-thing_set IndexBuffer = some (binding index_buffer)
-thing_set (Buffer t i) = none
-thing_set (Texture i) = none
-thing_set (Image i) = none
-thing_set (Sampler u) = some (binding (sampler u))
-thing_set Viewport = some (screen viewport)
-thing_set Scissor = some (screen scissor)
-thing_set BlendConstants = some (screen blend_constants)
-thing_set Program = none
-thing_set Primitive = none
-thing_set DepthBias = some (fixed depth_bias)
-thing_set AlphaToCoverage = none
-thing_set ClipDistances = none
-thing_set DepthStencil = none
-thing_set Depth = none
-thing_set (Target i) = none
-thing_set Targets = none
-thing_set (StencilFunction face) = none
-thing_set (StencilOperations face) = none
+thing_set (Attribute l) = None
+thing_set (VertexBuffer i) = Some (vertex (vertex_buffer i))
+thing_set IndexBuffer = Some (binding index_buffer)
+thing_set (Buffer t i) = None
+thing_set (Texture i) = None
+thing_set (Image i) = None
+thing_set (Sampler u) = Some (binding (sampler u))
+thing_set Viewport = Some (screen viewport)
+thing_set Scissor = Some (screen scissor)
+thing_set BlendConstants = Some (screen blend_constants)
+thing_set Program = None
+thing_set Primitive = None
+thing_set DepthBias = Some (fixed depth_bias)
+thing_set AlphaToCoverage = None
+thing_set ClipDistances = None
+thing_set DepthStencil = None
+thing_set Depth = None
+thing_set (Target i) = None
+thing_set Targets = None
+thing_set (StencilFunction face) = None
+thing_set (StencilOperations face) = None
 
 -- the thing that a command sets, if it is such a setting
 abbrev pub setting_of : Class → Option Thing
-setting_of Draw = none
-setting_of Clear = none
-setting_of Dispatch = none
-setting_of Reset = none
+setting_of Draw = None
+setting_of Clear = None
+setting_of Dispatch = None
+setting_of Reset = None
 setting_of (Sets t) = thing_set t
-setting_of Other = none
+setting_of Other = None
 
 -- "any draw, pass clear, dispatch or framebuffer reset"
 abbrev pub ends : Class → Bool
@@ -58,8 +57,8 @@ replaced x [] = false
 replaced x (c ∷ cs) = cond (ends (class_of c)) false (cond (names c x) true (replaced x cs))
 
 abbrev pub replaced_setting : Option Thing → List Command → Bool
-replaced_setting none cs = false
-replaced_setting (some x) cs = replaced x cs
+replaced_setting None cs = false
+replaced_setting (Some x) cs = replaced x cs
 
 -- the command is a setting that what follows it supersedes
 abbrev pub superseded : Command → List Command → Bool

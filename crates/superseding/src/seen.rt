@@ -16,7 +16,7 @@ pub enum Mark {
     Sampler(u32),
     // Blend constants, viewport, scissor, index buffer and depth bias, numbered from 0.
     Single(u32),
-    // Nothing of these.
+    // Nothing of these: a variant, so that one match reads a mark, where an Option asks for two.
     Nothing,
 }
 
@@ -109,18 +109,15 @@ fn with_mark(seen: Seen, mark: Mark) -> Seen
     match mark {
         Mark::VertexBuffer(i) => Seen {
             buffers: set(seen.buffers, i),
-            samplers: seen.samplers,
-            singles: seen.singles,
+            ..seen
         },
         Mark::Sampler(u) => Seen {
-            buffers: seen.buffers,
             samplers: set(seen.samplers, u),
-            singles: seen.singles,
+            ..seen
         },
         Mark::Single(k) => Seen {
-            buffers: seen.buffers,
-            samplers: seen.samplers,
             singles: set(seen.singles, k),
+            ..seen
         },
         Mark::Nothing => seen,
     }

@@ -7,11 +7,12 @@ ghost use Rattle.superseding.specs.Treated.{blank_of, upto_of, answer_of, Treats
 
 use crate::seen::{Seen, is_seen, mark_of, nothing_seen, seen_before};
 use lists::class::class_of;
-use lists::limits::{Surveyed, Used, breaks_of, is_broken, refusal_of, survey_lent};
+use lists::limits::{Surveyed, Used, breaks_of, is_broken, refusal_of, survey};
 use records::command::{Command, Record};
 use records::outcome::Outcome;
 
-// Document 01's answer, and how many commands the list has now.
+// Document 01's answer, and how many commands the list has now: its count where it is turned away, so
+// no value that a refusal leaves out (the contract `Treats` names both).
 #[derive(Clone, Copy)]
 pub struct Treated {
     pub outcome: Outcome,
@@ -32,33 +33,31 @@ fn blank() -> Record
 fn blanked(seen: Seen, i: usize, x: Record) -> Record
     ensures { result ≡ blanked_by seen i x }
 {
-    let command = x.command;
-    let class = class_of(command);
-    let mark = mark_of(class);
-    if is_seen(seen, mark) { blank() } else { x }
+    if is_seen(seen, mark_of(class_of(x.command))) {
+        blank()
+    } else {
+        x
+    }
 }
 
 fn look_back(seen: Seen, i: usize, x: Record) -> Seen
     ensures { result ≡ look_back seen i x }
 {
-    let command = x.command;
-    let class = class_of(command);
-    seen_before(seen, class)
+    seen_before(seen, class_of(x.command))
 }
 
 // Blanks for the settings that are superseded among the first n records, from the last to the first.
+// `n` beside the list, no part of it: the clause says of the whole run what the rest keeps. So
+// `retain`.
 fn blank_superseded(list: &mut [Record], n: usize, acc: Seen) -> Seen
     requires { n ≤ length list.old }
     ensures { (result ≡ fold_back look_back acc 0 (take n list.old)) × (list.new ≡ map_back blanked_by look_back acc 0 (take n list.old) ++ drop n list.old) }
 {
     let mut a = acc;
-    let mut i = n;
-    while 0 < i {
-        i -= 1;
+    for i in (0..n).rev() {
         let r = list[i];
-        let c = blanked(a, i, r);
+        list[i] = blanked(a, i, r);
         a = look_back(a, i, r);
-        list[i] = c;
     }
     a
 }
@@ -67,30 +66,24 @@ fn blank_superseded(list: &mut [Record], n: usize, acc: Seen) -> Seen
 fn stays(x: Record) -> bool
     ensures { result ≡ stays_of x }
 {
-    let command = x.command;
-    let breaks = breaks_of(
-        Used {
-            commands: 0,
-            bytes: 0,
-            queries: 0,
-        },
-        command,
-    );
-    !breaks.range
+    let unused = Used {
+        commands: 0,
+        bytes: 0,
+        queries: 0,
+    };
+    !breaks_of(unused, x.command).range
 }
 
 // What is no blank of the first n records, moved to the front; and how many these are.
+// A place counted by hand: std's `retain` is `Vec`'s, and the list is a lent slice.
 fn retain(list: &mut [Record], n: usize) -> usize
     requires { n ≤ length list.old }
     ensures { (result ≡ length (sifted stays_of (take n list.old))) × (list.new ≡ over (sifted stays_of (take n list.old)) list.old) }
 {
-    let mut i: usize = 0;
     let mut j: usize = 0;
-    while i < n {
+    for i in 0..n {
         let r = list[i];
-        let k = stays(r);
-        i += 1;
-        if k {
+        if stays(r) {
             list[j] = r;
             j += 1;
         }
@@ -128,7 +121,7 @@ fn answer(s: Surveyed, left: usize) -> Treated
 pub fn take_out_superseded(list: &mut [Record], used: Used) -> Treated
     ensures { Treats list.old used list.new result }
 {
-    let s = survey_lent(list, used);
+    let s = survey(list, used);
     let n = upto(s);
     let none = nothing_seen();
     let first = blank_superseded(list, n, none);

@@ -1,1 +1,2 @@
 pub mod Tabulate
+pub mod Made

@@ -2,13 +2,12 @@
 use Prim.Native.Nat.{ℕ, zero, suc, ◌-◌, ◌*◌, ◌≤◌, ◌<◌}
 use native.Mathlib.Omega.{arith}
 use mathlib.Core.Path.{◌≡◌, refl, sym, ap, ◌∙◌}
-use mathlib.Core.List.{List, [], ◌∷◌, ◌++◌, append_assoc, append-nil, map}
+use mathlib.Core.List.{List, [], ◌∷◌, ◌++◌, append_assoc, append-nil}
 use lib.IntN.{ℤ, pos, negsuc}
-use lib.ListN.{length, take, get_or, length-append, length-map, length-take}
+use lib.ListN.{length, take, get_or, length-append, length-take}
 use lib.Seq.{take-suc}
 use Rattle.numbers.specs.Convert.{bits32}
-use Rattle.records.specs.declared.command.OptionU32.{OptionU32}
-use Rattle.records.specs.declared.command.OptionU32.TheVariants.{None, Some}
+use Rattle.std.specs.Prelude.{Option, None, Some}
 use Rattle.text.specs.declared.field.Field.{Field}
 use Rattle.text.specs.declared.field.Field.TheVariants.{Number, Long, Signed, Flag, Float, Bits, Optional, Buffer, Absent, Text}
 use Rattle.text.specs.declared.field.Word.{Word}
@@ -25,7 +24,7 @@ signed-short : (z : ℤ) → length (signed z) ≤ 21
 signed-short (pos n) = omega (arith, decimal-long n)
 signed-short (negsuc n) = omega (arith, decimal-long (suc n))
 
-optional-short : (o : OptionU32) → length (optional o) ≤ 21
+optional-short : (o : Option ℕ) → length (optional o) ≤ 21
 optional-short None = omega arith
 optional-short (Some n) = omega (arith, decimal-long n)
 
@@ -54,7 +53,7 @@ spaced-short (f ∷ fs) = omega (arith, length-append (field_text f) (spaced fs)
 
 pub shown-short : (s : Shown) → s.count ≤ 14 → length (spaced (list_of s)) ≤ 308
 shown-short s h =
-    let n : length (list_of s) ≤ 14 = simp (length-map, length-take) (omega arith) in
+    let n : length (list_of s) ≤ 14 = simp length-take (omega arith) in
     omega (arith, spaced-short (list_of s))
 
 -- a name, its fields and a newline
@@ -80,24 +79,19 @@ spaced-one : (f : Field) → spaced (f ∷ []) ≡ 32 ∷ field_text f
 unfolding spaced
 spaced-one f = ap (λ t. 32 ∷ t) (append-nil (field_text f))
 
-map-append : {A B : Type 0} (f : A → B) (xs ys : List A) → map f (xs ++ ys) ≡ map f xs ++ map f ys
-map-append f [] ys = refl
-map-append f (x ∷ xs) ys = ap (λ t. f x ∷ t) (map-append f xs ys)
-
 -- the last of k fields
-pub spaced-step : {A : Type 0} (f : A → Field) (l : List A) (k : ℕ) (d : A) → 0 < k → k ≤ length l
-    → spaced (map f (take k l)) ≡ spaced (map f (take (k - 1) l)) ++ (32 ∷ field_text (f (get_or l (k - 1) d)))
-spaced-step f l k d p h =
+pub spaced-step : (l : List Field) (k : ℕ) (d : Field) → 0 < k → k ≤ length l
+    → spaced (take k l) ≡ spaced (take (k - 1) l) ++ (32 ∷ field_text (get_or l (k - 1) d))
+spaced-step l k d p h =
     let e : k ≡ suc (k - 1) = omega arith in
     let i : k - 1 < length l = omega arith in
-    ap (λ j. spaced (map f (take j l))) e
-    ∙ ap (λ t. spaced (map f t)) (take-suc l (k - 1) d i)
-    ∙ ap spaced (map-append f (take (k - 1) l) (get_or l (k - 1) d ∷ []))
-    ∙ spaced-append (map f (take (k - 1) l)) (f (get_or l (k - 1) d) ∷ [])
-    ∙ ap (λ t. spaced (map f (take (k - 1) l)) ++ t) (spaced-one (f (get_or l (k - 1) d)))
+    ap (λ j. spaced (take j l)) e
+    ∙ ap spaced (take-suc l (k - 1) d i)
+    ∙ spaced-append (take (k - 1) l) (get_or l (k - 1) d ∷ [])
+    ∙ ap (λ t. spaced (take (k - 1) l) ++ t) (spaced-one (get_or l (k - 1) d))
 
 -- no field
-pub spaced-none : {A : Type 0} (f : A → Field) (l : List A) (k : ℕ) → k ≤ 0 → spaced (map f (take k l)) ≡ []
+pub spaced-none : (l : List Field) (k : ℕ) → k ≤ 0 → spaced (take k l) ≡ []
 unfolding spaced
-spaced-none f l zero h = refl
-spaced-none {A = A} f l (suc _) h = elim h [ ]
+spaced-none l zero h = refl
+spaced-none l (suc _) h = elim h [ ]

@@ -2,12 +2,13 @@
 use Prim.Native.Nat.{ℕ, zero, suc, ◌+◌, ◌-◌, ◌≤◌, ◌<◌}
 use native.Mathlib.Nat.{le_of_suc-le-suc, not-suc-le-zero}
 use native.Mathlib.Omega.{arith}
-use mathlib.Core.Path.{◌≡◌, ap, ◌∙◌}
+use mathlib.Core.Path.{◌≡◌, sym, ap, ◌∙◌}
 use mathlib.Core.Bool.{Bool, true, ◌&&◌}
-use mathlib.Core.List.{List, [], ◌∷◌, ◌++◌}
+use mathlib.Core.List.{List, [], ◌∷◌}
 use lib.Dec.{T, leb, leb→le}
-use lib.ListN.{length, take, drop, get_or, length-take, drop_of_length-le}
-use lib.Seq.{slice, length-slice, take-suc, drop-append-le}
+use lib.ListN.{length, take, drop, get_or}
+use lib.Seq.{slice, length-slice}
+use Rattle.std.proofs.lemmas.List.{drop-take}
 use mir.Facts.{and_yes}
 use Rattle.text.specs.Shown.{names, ends, name_at}
 
@@ -46,18 +47,8 @@ name-short k h =
     let n = name-near k h in
     omega (arith, n.up, n.close, n.inside, length-slice (get_or ends k 0) (get_or ends (suc k) 0) names n.inside)
 
--- the last byte of a part
-pub slice-step : (l : List ℕ) (a k : ℕ) → a < k → k ≤ length l → slice a k l ≡ slice a (k - 1) l ++ (get_or l (k - 1) 0 ∷ [])
-slice-step l a k p h =
-    let e : k ≡ suc (k - 1) = omega arith in
-    let i : k - 1 < length l = omega arith in
-    let j : a ≤ length (take (k - 1) l) = simp length-take (omega arith) in
-    ap (λ n. drop a (take n l)) e
-    ∙ ap (drop a) (take-suc l (k - 1) 0 i)
-    ∙ drop-append-le a (take (k - 1) l) (get_or l (k - 1) 0 ∷ []) j
-
--- no byte
-pub slice-none : (l : List ℕ) (a k : ℕ) → k ≤ a → slice a k l ≡ []
-slice-none l a k h =
-    let e : length (take k l) ≤ a = simp length-take (omega arith) in
-    drop_of_length-le (take k l) e
+-- a part by its length
+pub part-is : (l : List ℕ) (a b : ℕ) → a ≤ b → take (b - a) (drop a l) ≡ slice a b l
+part-is l a b h =
+    let e : b ≡ a + (b - a) = omega arith in
+    sym (ap (λ n. drop a (take n l)) e ∙ drop-take a (b - a) l)

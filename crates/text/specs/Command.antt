@@ -1,9 +1,8 @@
 -- A command's line: tools/oracle/README.md, 'Output grammar' and its table of the 49 commands. Fields stand in the order of gles/mod.rs, and a struct is
 -- its fields in order. Definitions only.
-use Rattle.std.specs.Prelude.{ℕ, Bool, true, false, List, [], ◌∷◌, ◌++◌}
+use Rattle.std.specs.Prelude.{ℕ, Bool, true, false, List, [], ◌∷◌, ◌++◌, Option, None, Some}
 use Prim.Native.String.{String}
-use Rattle.records.specs.declared.command.OptionBlend.{OptionBlend}
-use Rattle.records.specs.declared.command.OptionBlend.TheVariants.{None, Some}
+use Rattle.names.specs.declared.gl.BlendDesc.{BlendDesc}
 use Rattle.records.specs.declared.command.TextureView.{TextureView}
 use Rattle.records.specs.declared.command.VertexStepMode.{VertexStepMode}
 use Rattle.records.specs.declared.command.VertexStepMode.TheVariants.{Vertex, Instance}
@@ -72,7 +71,7 @@ view_fields v =
     ∷ Number (sample_of v.kind) ∷ Flag v.is_srgb ∷ []
 
 -- a blend: none, or the three numbers of alpha and of colour
-abbrev pub blend_fields : OptionBlend → List Field
+abbrev pub blend_fields : Option BlendDesc → List Field
 blend_fields None = Absent ∷ []
 blend_fields (Some b) =
     Number b.alpha.src ∷ Number b.alpha.dst ∷ Number b.alpha.equation

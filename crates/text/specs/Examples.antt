@@ -1,11 +1,9 @@
 -- Lines of tools/oracle/data/sessions.out, each computed from its command. Assumes nothing.
-use Rattle.std.specs.Prelude.{ℕ, ◌≡◌, refl, Bool, false, pos, negsuc, Float}
+use Rattle.std.specs.Prelude.{ℕ, ◌≡◌, refl, Bool, false, pos, negsuc, Float, None, Some}
 use Prim.Native.String.{String}
 use Rattle.std.specs.Float.{nan, binary32}
 use Rattle.std.specs.Float.Ieee.{to_bits, of_bits}
 use Rattle.numbers.specs.Convert.{bits32}
-use Rattle.records.specs.declared.command.OptionU32.TheVariants.{None, Some}
-use Rattle.records.specs.declared.command.OptionBlend.TheVariants.{None as no_blend, Some as some_blend}
 use Rattle.records.specs.declared.command.VertexStepMode.TheVariants.{Vertex, Instance}
 use Rattle.records.specs.declared.command.VertexAttribKind.TheVariants.{Integer}
 use Rattle.records.specs.declared.command.TextureView.{TextureView}
@@ -118,7 +116,7 @@ unfolding decimal_in hex_in spaced
 set_vertex_buffer = refl
 
 set-color-target :
-    Prints 119 (SetColorTarget (Some 2) (record { mask = 7; blend = no_blend }))
+    Prints 119 (SetColorTarget (Some 2) (record { mask = 7; blend = None }))
     "119 SetColorTarget 2 7 -\n"
 unfolding decimal_in hex_in spaced
 set-color-target = refl
@@ -128,7 +126,7 @@ set-color-target-blend :
     (SetColorTarget None
     (record {
       mask = 15;
-      blend = some_blend (record { alpha = record { src = 1; dst = 2; equation = 3 }; color = record { src = 4; dst = 5; equation = 6 } });
+      blend = Some (record { alpha = record { src = 1; dst = 2; equation = 3 }; color = record { src = 4; dst = 5; equation = 6 } });
     }))
     "9 SetColorTarget - 15 1 2 3 4 5 6\n"
 unfolding decimal_in hex_in spaced

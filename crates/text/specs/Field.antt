@@ -1,8 +1,6 @@
 -- A field's text, by the signs of tools/oracle/README.md, 'Fields'. Definitions only.
-use Rattle.std.specs.Prelude.{ℕ, Bool, true, false, cond, List, [], ◌∷◌, ◌++◌, eqb}
+use Rattle.std.specs.Prelude.{ℕ, Bool, true, false, cond, List, [], ◌∷◌, ◌++◌, eqb, Option, None, Some}
 use Rattle.numbers.specs.Convert.{bits32}
-use Rattle.records.specs.declared.command.OptionU32.{OptionU32}
-use Rattle.records.specs.declared.command.OptionU32.TheVariants.{None, Some}
 use Rattle.text.specs.declared.field.Field.{Field}
 use Rattle.text.specs.declared.field.Field.TheVariants.{Number, Long, Signed, Flag, Float, Bits, Optional, Buffer, Absent, Text}
 use Rattle.text.specs.declared.field.Word.{Word}
@@ -16,12 +14,12 @@ flag_byte true = 49
 flag_byte false = 48
 
 -- a number, or `-`
-abbrev pub optional : OptionU32 → List ℕ
+abbrev pub optional : Option ℕ → List ℕ
 optional None = dash
 optional (Some n) = decimal n
 
 -- a buffer's number: 0 is none
-abbrev pub present_of : ℕ → OptionU32
+abbrev pub present_of : ℕ → Option ℕ
 present_of n = cond (eqb n 0) None (Some n)
 
 -- a word between the fields

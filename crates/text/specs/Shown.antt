@@ -1,11 +1,10 @@
 -- What the contracts inside the crate say of a command: where its name stands in a table of the names, and its fields. Assumes nothing.
-use Rattle.std.specs.Prelude.{ℕ, zero, suc, ◌≤◌, ◌≡◌, List, [], ◌∷◌, ◌++◌, map, take, get_or}
+use Rattle.std.specs.Prelude.{ℕ, zero, suc, ◌≤◌, ◌≡◌, List, [], ◌∷◌, ◌++◌, take, get_or}
 use Rattle.std.proofs.Math.Seq.{slice}
 use Rattle.records.specs.declared.command.Command.{Command}
 use Rattle.records.specs.declared.command.Command.TheVariants.{Draw, DrawIndexed, DrawIndirect, DrawIndexedIndirect, Dispatch, DispatchIndirect, ClearBuffer, CopyBufferToBuffer, SetIndexBuffer, BeginQuery, EndQuery, TimestampQuery, CopyQueryResults, ResetFramebuffer, BindAttachment, ResolveAttachment, InvalidateAttachments, SetDrawColorBuffers, ClearColorF, ClearColorU, ClearColorI, ClearDepth, ClearStencil, ClearDepthAndStencil, BufferBarrier, TextureBarrier, SetViewport, SetScissor, SetStencilFunc, SetStencilOps, SetDepth, SetDepthBias, ConfigureDepthStencil, SetAlphaToCoverage, SetVertexAttribute, UnsetVertexAttribute, SetVertexBuffer, SetProgram, SetPrimitive, SetBlendConstant, SetColorTarget, BindBuffer, BindSampler, BindTexture, BindImage, PushDebugGroup, PopDebugGroup, SetImmediates, SetClipDistances}
 use Rattle.text.specs.declared.field.Field.{Field}
 use Rattle.text.specs.declared.field.Field.TheVariants.{Absent}
-use Rattle.text.specs.declared.field.Item.{Item}
 use Rattle.text.specs.declared.field.Shown.{Shown}
 use Rattle.names.specs.Ascii.{ascii}
 use Rattle.text.specs.Command.{fields_of}
@@ -91,13 +90,13 @@ place_of (SetClipDistances old-count new-count) = 48
 
 -- the fields that are shown
 abbrev pub list_of : Shown → List Field
-list_of s = map (λ i. i.is) (take s.count s.items)
+list_of s = take s.count s.items
 
--- n items: the fields, and none past them
-abbrev pub padded : ℕ → List Field → List Item
+-- n fields: those of the list, and none past them
+abbrev pub padded : ℕ → List Field → List Field
 padded zero fs = []
-padded (suc n) [] = record { is = Absent } ∷ padded n []
-padded (suc n) (f ∷ fs) = record { is = f } ∷ padded n fs
+padded (suc n) [] = Absent ∷ padded n []
+padded (suc n) (f ∷ fs) = f ∷ padded n fs
 
 -- what is shown by a place, a count and up to 14 fields
 abbrev pub built : ℕ → ℕ → List Field → Shown

@@ -1,7 +1,5 @@
 -- What writing a line into lent bytes leaves there and answers. Definitions only.
-use Rattle.std.specs.Prelude.{ℕ, ◌+◌, Bool, cond, List, ◌++◌, leb, length, take, drop}
-use Rattle.text.specs.declared.Wrote.{Wrote}
-use Rattle.text.specs.declared.Wrote.TheVariants.{Next, NoRoom}
+use Rattle.std.specs.Prelude.{ℕ, ◌+◌, Bool, cond, List, ◌++◌, leb, length, take, drop, Option, None, Some}
 
 -- there is room for the line from `at` on
 abbrev pub fits : List ℕ → ℕ → List ℕ → Bool
@@ -15,6 +13,6 @@ laid out at line = take at out ++ line ++ drop (at + length line) out
 abbrev pub pasted : List ℕ → ℕ → List ℕ → List ℕ
 pasted out at line = cond (fits out at line) (laid out at line) out
 
--- the place past the line
-abbrev pub wrote_of : List ℕ → ℕ → List ℕ → Wrote
-wrote_of out at line = cond (fits out at line) (Next (at + length line)) NoRoom
+-- the place past the line, where there is room for it
+abbrev pub wrote_of : List ℕ → ℕ → List ℕ → Option ℕ
+wrote_of out at line = cond (fits out at line) (Some (at + length line)) None

@@ -14,15 +14,10 @@ use crate::put::put_line;
 use crate::shown::shown;
 use records::command::Command;
 
-// Where the next line may begin; or there was no room for this one.
-#[derive(Clone, Copy)]
-pub enum Wrote {
-    Next(usize),
-    NoRoom,
-}
-
-// Writes a command's line into `out` from `at` on, whole or not at all.
-pub fn write_command(out: &mut [u8], at: usize, number: u64, command: Command) -> Wrote
+// Writes a command's line into `out` from `at` on, whole or not at all: where the next line may begin, or
+// there was no room for this one.
+// Into lent bytes, no `Display`: `pasted` and `wrote_of` promise the run and the place (no heap).
+pub fn write_command(out: &mut [u8], at: usize, number: u64, command: Command) -> Option<usize>
     ensures { (out.new ≡ pasted out.old at (line_of number command)) × (result ≡ wrote_of out.old at (line_of number command)) }
 {
     let told = shown(command);
@@ -32,21 +27,15 @@ pub fn write_command(out: &mut [u8], at: usize, number: u64, command: Command) -
 }
 
 // Copies what stands in `line` from `start` on into `out` from `at` on, whole or not at all.
-pub fn paste(out: &mut [u8], at: usize, line: &[u8], start: usize) -> Wrote
+pub fn paste(out: &mut [u8], at: usize, line: &[u8], start: usize) -> Option<usize>
     requires { start ≤ length line.now }
     ensures { (out.new ≡ pasted out.old at (drop start line.now)) × (result ≡ wrote_of out.old at (drop start line.now)) }
 {
-    let count = line.len() - start;
-    if out.len() < at {
-        return Wrote::NoRoom;
+    let text = &line[start..];
+    if out.len() < at || out.len() - at < text.len() {
+        return None;
     }
-    if out.len() - at < count {
-        return Wrote::NoRoom;
-    }
-    let mut i = 0;
-    while i < count {
-        out[at + i] = line[start + i];
-        i += 1;
-    }
-    Wrote::Next(at + count)
+    let end = at + text.len();
+    out[at..end].copy_from_slice(text);
+    Some(end)
 }

@@ -1,5 +1,6 @@
 // A line is put together from its end: each function puts a text in front of what stands from `at`
-// on, and gives where the whole begins.
+// on, and gives where the whole begins. Kept, a run and a place in it: the promises of `put_decimal`,
+// `put_word` and `put_shown` are over any lent run.
 ghost use Rattle.std.specs.Prelude.{◌≡◌, [], ◌∷◌, ◌++◌, ◌+◌, ◌≤◌, ◌<◌, length, get_or};
 ghost use Rattle.std.proofs.Math.Seq.{slice};
 ghost use Rattle.text.specs.Digits.{decimal, hex_digit, hex, signed};
@@ -7,11 +8,10 @@ ghost use Rattle.text.specs.Field.{flag_byte, present_of, optional, word_text, f
 ghost use Rattle.text.specs.Shown.{names, ends, name_at, list_of};
 ghost use Rattle.text.specs.Put.{Put, body_of, line_from};
 
-use crate::field::{Field, Item, Shown, Word};
-use records::command::OptionU32;
+use crate::field::{Field, Shown, Word};
 
 // The names in the order of the commands, those of the state's rows, and two words, each after a
-// blank.
+// blank. Kept, one text and its ends: `names` and `ends` of specs/Shown.antt are these tables.
 const NAMES: [u8; 994] =
     *b" Draw DrawIndexed DrawIndirect DrawIndexedIndirect Dispatch DispatchIndirect ClearBuffer \
     CopyBufferToBuffer SetIndexBuffer BeginQuery EndQuery TimestampQuery CopyQueryResults \
@@ -41,11 +41,14 @@ fn name_end(place: usize) -> usize
     ENDS[place]
 }
 
-fn name_byte(i: usize) -> u8
-    requires { i < 994 }
-    ensures { result ≡ get_or names i 0 }
+// A blank and the name at this place.
+fn name(place: usize) -> &'static [u8]
+    requires { place < 74 }
+    ensures { result.now ≡ name_at place }
 {
-    NAMES[i]
+    let from = name_end(place);
+    let to = name_end(place + 1);
+    &NAMES[from..to]
 }
 
 // One byte.
@@ -58,6 +61,16 @@ fn put(line: &mut [u8], at: usize, byte: u8) -> usize
     i
 }
 
+// Bytes as they stand.
+fn put_text(line: &mut [u8], at: usize, text: &[u8]) -> usize
+    requires { (length text.now ≤ at) × (at ≤ length line.old) }
+    ensures { Put text.now line.old at line.new result }
+{
+    let i = at - text.len();
+    line[i..at].copy_from_slice(text);
+    i
+}
+
 // The digits to the base ten, the last first.
 pub fn put_decimal(line: &mut [u8], at: usize, n: u64) -> usize
     requires { (20 ≤ at) × (at ≤ length line.old) }
@@ -67,7 +80,7 @@ pub fn put_decimal(line: &mut [u8], at: usize, n: u64) -> usize
     let mut rest = n;
     while rest >= 10 {
         i = put(line, i, 48 + (rest % 10) as u8);
-        rest = rest / 10;
+        rest /= 10;
     }
     put(line, i, 48 + rest as u8)
 }
@@ -86,11 +99,9 @@ fn put_hex(line: &mut [u8], at: usize, n: u32) -> usize
 {
     let mut i = at;
     let mut rest = n;
-    let mut k: usize = 8;
-    while k > 0 {
+    for _k in (0..8usize).rev() {
         i = put(line, i, hex_digit(rest % 16));
-        rest = rest / 16;
-        k -= 1;
+        rest /= 16;
     }
     i
 }
@@ -115,23 +126,19 @@ fn flag_byte(b: bool) -> u8
 }
 
 // The number of a buffer, which 0 is not.
-fn present(n: u32) -> OptionU32
+fn present(n: u32) -> Option<u32>
     ensures { result ≡ present_of n }
 {
-    if n == 0 {
-        OptionU32::None
-    } else {
-        OptionU32::Some(n)
-    }
+    if n == 0 { None } else { Some(n) }
 }
 
-fn put_optional(line: &mut [u8], at: usize, o: OptionU32) -> usize
+fn put_optional(line: &mut [u8], at: usize, o: Option<u32>) -> usize
     requires { (20 ≤ at) × (at ≤ length line.old) }
     ensures { Put (optional o) line.old at line.new result }
 {
     match o {
-        OptionU32::None => put(line, at, b'-'),
-        OptionU32::Some(n) => put_decimal(line, at, n as u64),
+        None => put(line, at, b'-'),
+        Some(n) => put_decimal(line, at, n as u64),
     }
 }
 
@@ -154,11 +161,10 @@ fn put_field(line: &mut [u8], at: usize, field: Field) -> usize
 }
 
 // A blank and a field.
-fn put_item(line: &mut [u8], at: usize, item: Item) -> usize
+fn put_item(line: &mut [u8], at: usize, field: Field) -> usize
     requires { (22 ≤ at) × (at ≤ length line.old) }
-    ensures { Put (32 ∷ field_text item.is) line.old at line.new result }
+    ensures { Put (32 ∷ field_text field) line.old at line.new result }
 {
-    let field = item.is;
     let i = put_field(line, at, field);
     put(line, i, b' ')
 }
@@ -168,26 +174,9 @@ fn put_fields(line: &mut [u8], at: usize, shown: Shown) -> usize
     requires { (308 ≤ at) × (at ≤ length line.old) × (shown.count ≤ 14) }
     ensures { Put (spaced (list_of shown)) line.old at line.new result }
 {
-    let items = shown.items;
-    let mut k = shown.count;
     let mut i = at;
-    while k > 0 {
-        k -= 1;
-        i = put_item(line, i, items[k]);
-    }
-    i
-}
-
-// The bytes of the names from `from` on, up to `to`.
-fn put_part(line: &mut [u8], at: usize, from: usize, to: usize) -> usize
-    requires { (at ≤ length line.old) × (from ≤ to) × (to ≤ 994) × (to ≤ from + at) }
-    ensures { Put (slice from to names) line.old at line.new result }
-{
-    let mut k = to;
-    let mut i = at;
-    while k > from {
-        k -= 1;
-        i = put(line, i, name_byte(k));
+    for k in (0..shown.count).rev() {
+        i = put_item(line, i, shown.items[k]);
     }
     i
 }
@@ -197,8 +186,8 @@ pub fn put_word(line: &mut [u8], at: usize, word: Word) -> usize
     ensures { Put (word_text word) line.old at line.new result }
 {
     match word {
-        Word::DirtyMask => put_part(line, at, 978, 988),
-        Word::State => put_part(line, at, 989, 994),
+        Word::DirtyMask => put_text(line, at, b"dirty_mask"),
+        Word::State => put_text(line, at, b"state"),
     }
 }
 
@@ -207,9 +196,7 @@ fn put_name(line: &mut [u8], at: usize, place: usize) -> usize
     requires { (24 ≤ at) × (at ≤ length line.old) × (place < 74) }
     ensures { Put (name_at place) line.old at line.new result }
 {
-    let from = name_end(place);
-    let to = name_end(place + 1);
-    put_part(line, at, from, to)
+    put_text(line, at, name(place))
 }
 
 // A name, its fields and the end of the line, at the end of `line`.

@@ -1,15 +1,15 @@
-// What is shown of each command, in the order of gles/mod.rs. The first argument of a builder is the
-// command's place in that order, the second the number of its fields.
+// What is shown of each command, in the order of gles/mod.rs: the command's place in that order and its
+// fields.
 ghost use Rattle.std.specs.Prelude.{◌≡◌, [], ◌∷◌, ◌++◌, ◌≤◌};
 ghost use Rattle.records.specs.declared.command.Command.TheVariants.{SetVertexAttribute, SetVertexBuffer, SetColorTarget};
 ghost use Rattle.text.specs.declared.field.Field.TheVariants.{Number};
 ghost use Rattle.text.specs.Command.{is_instance, is_integer, sample_of, inner_kind, inner_number, inner_target, view_fields};
 ghost use Rattle.text.specs.Shown.{place_of, built, Tells};
 
-use crate::field::{Field, Shown, four, fourteen, nine, numbers, one, six, two};
+use crate::field::{Field, Shown};
 use records::command::{
-    AttributeDesc, BufferBinding, ColorTargetDesc, Command, OptionBlend, OptionU32, SampleKind,
-    TextureInner, TextureView, VertexAttribKind, VertexBufferDesc, VertexStepMode,
+    AttributeDesc, BufferBinding, ColorTargetDesc, Command, SampleKind, TextureInner, TextureView,
+    VertexAttribKind, VertexBufferDesc, VertexStepMode,
 };
 
 // Draws, dispatches, copies and queries; the others after them.
@@ -24,15 +24,16 @@ pub(crate) fn shown(command: Command) -> Shown
             first_instance,
             instance_count,
             first_instance_location,
-        } => six(
+        } => Shown::new(
             0,
-            6,
-            Field::Number(topology),
-            Field::Number(first_vertex),
-            Field::Number(vertex_count),
-            Field::Number(first_instance),
-            Field::Number(instance_count),
-            Field::Optional(first_instance_location),
+            [
+                Field::Number(topology),
+                Field::Number(first_vertex),
+                Field::Number(vertex_count),
+                Field::Number(first_instance),
+                Field::Number(instance_count),
+                Field::Optional(first_instance_location),
+            ],
         ),
         Command::DrawIndexed {
             topology,
@@ -43,31 +44,32 @@ pub(crate) fn shown(command: Command) -> Shown
             first_instance,
             instance_count,
             first_instance_location,
-        } => nine(
+        } => Shown::new(
             1,
-            8,
-            Field::Number(topology),
-            Field::Number(index_type),
-            Field::Number(index_count),
-            Field::Long(index_offset),
-            Field::Signed(base_vertex),
-            Field::Number(first_instance),
-            Field::Number(instance_count),
-            Field::Optional(first_instance_location),
-            Field::Absent,
+            [
+                Field::Number(topology),
+                Field::Number(index_type),
+                Field::Number(index_count),
+                Field::Long(index_offset),
+                Field::Signed(base_vertex),
+                Field::Number(first_instance),
+                Field::Number(instance_count),
+                Field::Optional(first_instance_location),
+            ],
         ),
         Command::DrawIndirect {
             topology,
             indirect_buf,
             indirect_offset,
             first_instance_location,
-        } => four(
+        } => Shown::new(
             2,
-            4,
-            Field::Number(topology),
-            Field::Number(indirect_buf),
-            Field::Long(indirect_offset),
-            Field::Optional(first_instance_location),
+            [
+                Field::Number(topology),
+                Field::Number(indirect_buf),
+                Field::Long(indirect_offset),
+                Field::Optional(first_instance_location),
+            ],
         ),
         Command::DrawIndexedIndirect {
             topology,
@@ -75,37 +77,39 @@ pub(crate) fn shown(command: Command) -> Shown
             indirect_buf,
             indirect_offset,
             first_instance_location,
-        } => six(
+        } => Shown::new(
             3,
-            5,
-            Field::Number(topology),
-            Field::Number(index_type),
-            Field::Number(indirect_buf),
-            Field::Long(indirect_offset),
-            Field::Optional(first_instance_location),
-            Field::Absent,
+            [
+                Field::Number(topology),
+                Field::Number(index_type),
+                Field::Number(indirect_buf),
+                Field::Long(indirect_offset),
+                Field::Optional(first_instance_location),
+            ],
         ),
-        Command::Dispatch(x, y, z) => numbers(4, 3, x, y, z, 0, 0, 0),
+        Command::Dispatch(x, y, z) => Shown::new(
+            4,
+            [Field::Number(x), Field::Number(y), Field::Number(z)],
+        ),
         Command::DispatchIndirect {
             indirect_buf,
             indirect_offset,
-        } => two(
+        } => Shown::new(
             5,
-            2,
-            Field::Number(indirect_buf),
-            Field::Long(indirect_offset),
+            [Field::Number(indirect_buf), Field::Long(indirect_offset)],
         ),
         Command::ClearBuffer {
             dst,
             dst_target,
             range,
-        } => four(
+        } => Shown::new(
             6,
-            4,
-            Field::Buffer(dst),
-            Field::Number(dst_target),
-            Field::Long(range.start),
-            Field::Long(range.end),
+            [
+                Field::Buffer(dst),
+                Field::Number(dst_target),
+                Field::Long(range.start),
+                Field::Long(range.end),
+            ],
         ),
         Command::CopyBufferToBuffer {
             src,
@@ -113,37 +117,39 @@ pub(crate) fn shown(command: Command) -> Shown
             dst,
             dst_target,
             copy,
-        } => nine(
+        } => Shown::new(
             7,
-            7,
-            Field::Buffer(src),
-            Field::Number(src_target),
-            Field::Buffer(dst),
-            Field::Number(dst_target),
-            Field::Long(copy.src_offset),
-            Field::Long(copy.dst_offset),
-            Field::Long(copy.size),
-            Field::Absent,
-            Field::Absent,
+            [
+                Field::Buffer(src),
+                Field::Number(src_target),
+                Field::Buffer(dst),
+                Field::Number(dst_target),
+                Field::Long(copy.src_offset),
+                Field::Long(copy.dst_offset),
+                Field::Long(copy.size),
+            ],
         ),
-        Command::SetIndexBuffer(buffer) => numbers(8, 1, buffer, 0, 0, 0, 0, 0),
-        Command::BeginQuery(query, target) => numbers(9, 2, query, target, 0, 0, 0, 0),
-        Command::EndQuery(target) => numbers(10, 1, target, 0, 0, 0, 0, 0),
-        Command::TimestampQuery(query) => numbers(11, 1, query, 0, 0, 0, 0, 0),
+        Command::SetIndexBuffer(buffer) => Shown::new(8, [Field::Number(buffer)]),
+        Command::BeginQuery(query, target) => Shown::new(
+            9,
+            [Field::Number(query), Field::Number(target)],
+        ),
+        Command::EndQuery(target) => Shown::new(10, [Field::Number(target)]),
+        Command::TimestampQuery(query) => Shown::new(11, [Field::Number(query)]),
         Command::CopyQueryResults {
             query_range,
             dst,
             dst_target,
             dst_offset,
-        } => six(
+        } => Shown::new(
             12,
-            5,
-            Field::Number(query_range.start),
-            Field::Number(query_range.end),
-            Field::Buffer(dst),
-            Field::Number(dst_target),
-            Field::Long(dst_offset),
-            Field::Absent,
+            [
+                Field::Number(query_range.start),
+                Field::Number(query_range.end),
+                Field::Buffer(dst),
+                Field::Number(dst_target),
+                Field::Long(dst_offset),
+            ],
         ),
         _ => shown_pass(command),
     }
@@ -155,7 +161,7 @@ fn shown_pass(command: Command) -> Shown
     ensures { Tells command result }
 {
     match command {
-        Command::ResetFramebuffer { is_default } => one(13, 1, Field::Flag(is_default)),
+        Command::ResetFramebuffer { is_default } => Shown::new(13, [Field::Flag(is_default)]),
         Command::BindAttachment {
             attachment,
             view,
@@ -183,65 +189,69 @@ fn shown_pass(command: Command) -> Shown
             Field::Number(size.height),
             Field::Number(size.depth_or_array_layers),
         ),
-        Command::InvalidateAttachments(attachments) => numbers(16, 1, attachments, 0, 0, 0, 0, 0),
-        Command::SetDrawColorBuffers(count) => numbers(17, 1, count, 0, 0, 0, 0, 0),
-        Command::ClearColorF { draw_buffer, color } => six(
+        Command::InvalidateAttachments(attachments) => Shown::new(16, [Field::Number(attachments)]),
+        Command::SetDrawColorBuffers(count) => Shown::new(17, [Field::Number(count)]),
+        Command::ClearColorF { draw_buffer, color } => Shown::new(
             18,
-            6,
-            Field::Number(draw_buffer),
-            Field::Float(color.r),
-            Field::Float(color.g),
-            Field::Float(color.b),
-            Field::Float(color.a),
-            Field::Flag(color.is_srgb),
+            [
+                Field::Number(draw_buffer),
+                Field::Float(color.r),
+                Field::Float(color.g),
+                Field::Float(color.b),
+                Field::Float(color.a),
+                Field::Flag(color.is_srgb),
+            ],
         ),
-        Command::ClearColorU(draw_buffer, color) => numbers(
+        Command::ClearColorU(draw_buffer, color) => Shown::new(
             19,
-            5,
-            draw_buffer,
-            color.r,
-            color.g,
-            color.b,
-            color.a,
-            0,
+            [
+                Field::Number(draw_buffer),
+                Field::Number(color.r),
+                Field::Number(color.g),
+                Field::Number(color.b),
+                Field::Number(color.a),
+            ],
         ),
-        Command::ClearColorI(draw_buffer, color) => six(
+        Command::ClearColorI(draw_buffer, color) => Shown::new(
             20,
-            5,
-            Field::Number(draw_buffer),
-            Field::Signed(color.r),
-            Field::Signed(color.g),
-            Field::Signed(color.b),
-            Field::Signed(color.a),
-            Field::Absent,
+            [
+                Field::Number(draw_buffer),
+                Field::Signed(color.r),
+                Field::Signed(color.g),
+                Field::Signed(color.b),
+                Field::Signed(color.a),
+            ],
         ),
-        Command::ClearDepth(depth) => one(21, 1, Field::Float(depth)),
-        Command::ClearStencil(value) => numbers(22, 1, value, 0, 0, 0, 0, 0),
-        Command::ClearDepthAndStencil(depth, value) => two(
+        Command::ClearDepth(depth) => Shown::new(21, [Field::Float(depth)]),
+        Command::ClearStencil(value) => Shown::new(22, [Field::Number(value)]),
+        Command::ClearDepthAndStencil(depth, value) => Shown::new(
             23,
-            2,
-            Field::Float(depth),
-            Field::Number(value),
+            [Field::Float(depth), Field::Number(value)],
         ),
-        Command::BufferBarrier(buffer, uses) => numbers(24, 2, buffer, uses, 0, 0, 0, 0),
-        Command::TextureBarrier(uses) => numbers(25, 1, uses, 0, 0, 0, 0, 0),
-        Command::SetViewport { rect, depth } => six(
+        Command::BufferBarrier(buffer, uses) => Shown::new(
+            24,
+            [Field::Number(buffer), Field::Number(uses)],
+        ),
+        Command::TextureBarrier(uses) => Shown::new(25, [Field::Number(uses)]),
+        Command::SetViewport { rect, depth } => Shown::new(
             26,
-            6,
-            Field::Signed(rect.x),
-            Field::Signed(rect.y),
-            Field::Signed(rect.w),
-            Field::Signed(rect.h),
-            Field::Float(depth.start),
-            Field::Float(depth.end),
+            [
+                Field::Signed(rect.x),
+                Field::Signed(rect.y),
+                Field::Signed(rect.w),
+                Field::Signed(rect.h),
+                Field::Float(depth.start),
+                Field::Float(depth.end),
+            ],
         ),
-        Command::SetScissor(rect) => four(
+        Command::SetScissor(rect) => Shown::new(
             27,
-            4,
-            Field::Signed(rect.x),
-            Field::Signed(rect.y),
-            Field::Signed(rect.w),
-            Field::Signed(rect.h),
+            [
+                Field::Signed(rect.x),
+                Field::Signed(rect.y),
+                Field::Signed(rect.w),
+                Field::Signed(rect.h),
+            ],
         ),
         _ => shown_state(command),
     }
@@ -258,64 +268,72 @@ fn shown_state(command: Command) -> Shown
             function,
             reference,
             read_mask,
-        } => numbers(28, 4, face, function, reference, read_mask, 0, 0),
+        } => Shown::new(
+            28,
+            [
+                Field::Number(face),
+                Field::Number(function),
+                Field::Number(reference),
+                Field::Number(read_mask),
+            ],
+        ),
         Command::SetStencilOps {
             face,
             write_mask,
             ops,
-        } => numbers(
+        } => Shown::new(
             29,
-            5,
-            face,
-            write_mask,
-            ops.pass,
-            ops.fail,
-            ops.depth_fail,
-            0,
+            [
+                Field::Number(face),
+                Field::Number(write_mask),
+                Field::Number(ops.pass),
+                Field::Number(ops.fail),
+                Field::Number(ops.depth_fail),
+            ],
         ),
-        Command::SetDepth(depth) => two(
+        Command::SetDepth(depth) => Shown::new(
             30,
-            2,
-            Field::Number(depth.function),
-            Field::Flag(depth.mask),
+            [Field::Number(depth.function), Field::Flag(depth.mask)],
         ),
-        Command::SetDepthBias(bias) => four(
+        Command::SetDepthBias(bias) => Shown::new(
             31,
-            3,
-            Field::Signed(bias.constant),
-            Field::Bits(bias.slope_scale),
-            Field::Bits(bias.clamp),
-            Field::Absent,
+            [
+                Field::Signed(bias.constant),
+                Field::Bits(bias.slope_scale),
+                Field::Bits(bias.clamp),
+            ],
         ),
-        Command::ConfigureDepthStencil(aspects) => numbers(32, 1, aspects, 0, 0, 0, 0, 0),
-        Command::SetAlphaToCoverage(enabled) => one(33, 1, Field::Flag(enabled)),
+        Command::ConfigureDepthStencil(aspects) => Shown::new(32, [Field::Number(aspects)]),
+        Command::SetAlphaToCoverage(enabled) => Shown::new(33, [Field::Flag(enabled)]),
         Command::SetVertexAttribute {
             buffer,
             buffer_desc,
             attribute_desc,
         } => set_vertex_attribute(buffer, buffer_desc, attribute_desc),
-        Command::UnsetVertexAttribute(location) => numbers(35, 1, location, 0, 0, 0, 0, 0),
+        Command::UnsetVertexAttribute(location) => Shown::new(35, [Field::Number(location)]),
         Command::SetVertexBuffer {
             index,
             buffer,
             buffer_desc,
         } => set_vertex_buffer(index, buffer, buffer_desc),
-        Command::SetProgram(program) => numbers(37, 1, program, 0, 0, 0, 0, 0),
-        Command::SetPrimitive(state) => four(
+        Command::SetProgram(program) => Shown::new(37, [Field::Number(program)]),
+        Command::SetPrimitive(state) => Shown::new(
             38,
-            4,
-            Field::Number(state.front_face),
-            Field::Number(state.cull_face),
-            Field::Flag(state.unclipped_depth),
-            Field::Number(state.polygon_mode),
+            [
+                Field::Number(state.front_face),
+                Field::Number(state.cull_face),
+                Field::Flag(state.unclipped_depth),
+                Field::Number(state.polygon_mode),
+            ],
         ),
-        Command::SetBlendConstant(color) => four(
+        Command::SetBlendConstant(color) => Shown::new(
             39,
-            4,
-            Field::Float(color.r),
-            Field::Float(color.g),
-            Field::Float(color.b),
-            Field::Float(color.a),
+            [
+                Field::Float(color.r),
+                Field::Float(color.g),
+                Field::Float(color.b),
+                Field::Float(color.a),
+            ],
         ),
         Command::SetColorTarget {
             draw_buffer_index,
@@ -337,21 +355,19 @@ fn shown_binding(command: Command) -> Shown
             buffer,
             offset,
             size,
-        } => six(
+        } => Shown::new(
             41,
-            5,
-            Field::Number(target),
-            Field::Number(slot),
-            Field::Number(buffer),
-            Field::Signed(offset),
-            Field::Signed(size),
-            Field::Absent,
+            [
+                Field::Number(target),
+                Field::Number(slot),
+                Field::Number(buffer),
+                Field::Signed(offset),
+                Field::Signed(size),
+            ],
         ),
-        Command::BindSampler(unit, sampler) => two(
+        Command::BindSampler(unit, sampler) => Shown::new(
             42,
-            2,
-            Field::Number(unit),
-            Field::Optional(sampler),
+            [Field::Number(unit), Field::Optional(sampler)],
         ),
         Command::BindTexture {
             slot,
@@ -359,46 +375,51 @@ fn shown_binding(command: Command) -> Shown
             target,
             aspects,
             mip_levels,
-        } => numbers(
+        } => Shown::new(
             43,
-            6,
-            slot,
-            texture,
-            target,
-            aspects,
-            mip_levels.start,
-            mip_levels.end,
+            [
+                Field::Number(slot),
+                Field::Number(texture),
+                Field::Number(target),
+                Field::Number(aspects),
+                Field::Number(mip_levels.start),
+                Field::Number(mip_levels.end),
+            ],
         ),
         Command::BindImage { slot, binding } => {
             let layer = binding.array_layer;
-            six(
+            Shown::new(
                 44,
-                6,
-                Field::Number(slot),
-                Field::Number(binding.raw),
-                Field::Number(binding.mip_level),
-                Field::Optional(layer),
-                Field::Number(binding.access),
-                Field::Number(binding.format),
+                [
+                    Field::Number(slot),
+                    Field::Number(binding.raw),
+                    Field::Number(binding.mip_level),
+                    Field::Optional(layer),
+                    Field::Number(binding.access),
+                    Field::Number(binding.format),
+                ],
             )
         }
-        Command::PushDebugGroup(range) => numbers(45, 2, range.start, range.end, 0, 0, 0, 0),
-        Command::PopDebugGroup => numbers(46, 0, 0, 0, 0, 0, 0, 0),
-        Command::SetImmediates { uniform, offset } => numbers(
+        Command::PushDebugGroup(range) => Shown::new(
+            45,
+            [Field::Number(range.start), Field::Number(range.end)],
+        ),
+        Command::PopDebugGroup => Shown::new(46, []),
+        Command::SetImmediates { uniform, offset } => Shown::new(
             47,
-            5,
-            uniform.location,
-            uniform.ty,
-            uniform.offset,
-            uniform.size_bytes,
-            offset,
-            0,
+            [
+                Field::Number(uniform.location),
+                Field::Number(uniform.ty),
+                Field::Number(uniform.offset),
+                Field::Number(uniform.size_bytes),
+                Field::Number(offset),
+            ],
         ),
         Command::SetClipDistances {
             old_count,
             new_count,
-        } => numbers(48, 2, old_count, new_count, 0, 0, 0, 0),
-        _ => numbers(0, 0, 0, 0, 0, 0, 0, 0),
+        } => Shown::new(48, [Field::Number(old_count), Field::Number(new_count)]),
+        _ => Shown::new(0, []),
     }
 }
 
@@ -464,7 +485,7 @@ fn inner_target(inner: TextureInner) -> Field
     }
 }
 
-// An attachment, a view, and three fields.
+// The first `count` of an attachment, a view, and three fields.
 fn attachment_fields(
     name: usize,
     count: usize,
@@ -480,9 +501,7 @@ fn attachment_fields(
     let kind = view.kind;
     let number = inner_number(inner);
     let target = inner_target(inner);
-    fourteen(
-        name,
-        count,
+    let items = [
         Field::Number(attachment),
         Field::Number(inner_kind(inner)),
         number,
@@ -497,11 +516,12 @@ fn attachment_fields(
         x,
         y,
         z,
-    )
+    ];
+    Shown { name, count, items }
 }
 
 fn set_vertex_attribute(
-    buffer: OptionU32,
+    buffer: Option<u32>,
     buffer_desc: VertexBufferDesc,
     attribute_desc: AttributeDesc,
 ) -> Shown
@@ -510,18 +530,19 @@ fn set_vertex_attribute(
     let step = buffer_desc.step;
     let format = attribute_desc.format_desc;
     let kind = format.attrib_kind;
-    nine(
+    Shown::new(
         34,
-        9,
-        Field::Optional(buffer),
-        Field::Flag(is_instance(step)),
-        Field::Number(buffer_desc.stride),
-        Field::Number(attribute_desc.location),
-        Field::Number(attribute_desc.offset),
-        Field::Number(attribute_desc.buffer_index),
-        Field::Signed(format.element_count),
-        Field::Number(format.element_format),
-        Field::Flag(is_integer(kind)),
+        [
+            Field::Optional(buffer),
+            Field::Flag(is_instance(step)),
+            Field::Number(buffer_desc.stride),
+            Field::Number(attribute_desc.location),
+            Field::Number(attribute_desc.offset),
+            Field::Number(attribute_desc.buffer_index),
+            Field::Signed(format.element_count),
+            Field::Number(format.element_format),
+            Field::Flag(is_integer(kind)),
+        ],
     )
 }
 
@@ -529,44 +550,44 @@ fn set_vertex_buffer(index: u32, buffer: BufferBinding, buffer_desc: VertexBuffe
     ensures { Tells (SetVertexBuffer index buffer buffer_desc) result }
 {
     let step = buffer_desc.step;
-    six(
+    Shown::new(
         36,
-        5,
-        Field::Number(index),
-        Field::Number(buffer.raw),
-        Field::Long(buffer.offset),
-        Field::Flag(is_instance(step)),
-        Field::Number(buffer_desc.stride),
-        Field::Absent,
+        [
+            Field::Number(index),
+            Field::Number(buffer.raw),
+            Field::Long(buffer.offset),
+            Field::Flag(is_instance(step)),
+            Field::Number(buffer_desc.stride),
+        ],
     )
 }
 
-fn set_color_target(draw_buffer_index: OptionU32, desc: ColorTargetDesc) -> Shown
+fn set_color_target(draw_buffer_index: Option<u32>, desc: ColorTargetDesc) -> Shown
     ensures { Tells (SetColorTarget draw_buffer_index desc) result }
 {
     let mask = desc.mask;
     let blend = desc.blend;
     match blend {
-        OptionBlend::None => four(
+        None => Shown::new(
             40,
-            3,
-            Field::Optional(draw_buffer_index),
-            Field::Number(mask),
-            Field::Absent,
-            Field::Absent,
+            [
+                Field::Optional(draw_buffer_index),
+                Field::Number(mask),
+                Field::Absent,
+            ],
         ),
-        OptionBlend::Some(b) => nine(
+        Some(b) => Shown::new(
             40,
-            8,
-            Field::Optional(draw_buffer_index),
-            Field::Number(mask),
-            Field::Number(b.alpha.src),
-            Field::Number(b.alpha.dst),
-            Field::Number(b.alpha.equation),
-            Field::Number(b.color.src),
-            Field::Number(b.color.dst),
-            Field::Number(b.color.equation),
-            Field::Absent,
+            [
+                Field::Optional(draw_buffer_index),
+                Field::Number(mask),
+                Field::Number(b.alpha.src),
+                Field::Number(b.alpha.dst),
+                Field::Number(b.alpha.equation),
+                Field::Number(b.color.src),
+                Field::Number(b.color.dst),
+                Field::Number(b.color.equation),
+            ],
         ),
     }
 }

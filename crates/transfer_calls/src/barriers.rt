@@ -1,18 +1,17 @@
-// Buffer barriers: which of them are recorded, the command by its place, and how a plan of them is
-// written into the list. The contracts cite specs/Barriers.antt.
-ghost use Rattle.std.specs.Prelude.{ℕ, ◌+◌, ◌*◌, ◌-◌, ◌<◌, ◌≤◌, ◌≡◌, ◌&&◌, eqb, length};
+// Buffer barriers: which of them are recorded, the plan and its batch. The contracts cite
+// specs/Barriers.antt.
+ghost use Rattle.std.specs.Prelude.{◌+◌, ◌*◌, ◌-◌, ◌<◌, ◌≡◌, ◌&&◌, eqb, length};
 ghost use Rattle.mask.specs.Mask.{digit_of};
 ghost use Rattle.records.specs.Check.{some?};
-ghost use Rattle.walks.specs.Fill.{filled};
-ghost use Rattle.calls.specs.Did.{record_of};
 ghost use Rattle.calls.specs.Transfers.{buffer_barriers, buffer_barrier_commands, synchronizes as synchronizes_of, barrier_absent};
 ghost use Rattle.transfer_calls.specs.Barriers.{barrier_at, Recorded, BarrierAllowed, barrier_command_at, barrier_answer};
 
 use crate::threes::elements;
 use bindings::group::one_if;
+use calls::batch::Batch;
 use calls::parts::with_progress;
 use records::check::within;
-use records::command::{Command, Record};
+use records::command::Command;
 use records::outcome::Outcome;
 use records::state::{Answer, Progress, State};
 
@@ -32,6 +31,7 @@ pub struct BarrierPlan {
 }
 
 // Barrier i comes after a storage use.
+// Three numbers a place: `barrier_at` of the clause reads the flat run.
 fn synchronizes(run: &[u32], i: usize) -> bool
     requires { 3 * i + 2 < length run.now }
     ensures { result ≡ synchronizes_of (barrier_at run.now i) }
@@ -53,11 +53,10 @@ fn absent(run: &[u32], i: usize) -> bool
 pub(crate) fn barrier_count(run: &[u32], count: usize) -> usize
     ensures { result ≡ length (buffer_barrier_commands (buffer_barriers (record { run = run.now; count = count }))) }
 {
-    let mut left = elements(run.len(), count);
+    let all = elements(run.len(), count);
     let mut n: usize = 0;
-    while 0 < left {
-        left = left - 1;
-        let some = synchronizes(run, left);
+    for i in (0..all).rev() {
+        let some = synchronizes(run, i);
         n = (one_if(some) as usize) + n;
     }
     n
@@ -67,11 +66,10 @@ pub(crate) fn barrier_count(run: &[u32], count: usize) -> usize
 pub(crate) fn barrier_absent(run: &[u32], count: usize) -> bool
     ensures { result ≡ some? barrier_absent (buffer_barriers (record { run = run.now; count = count })) }
 {
-    let mut left = elements(run.len(), count);
+    let n = elements(run.len(), count);
     let mut bad = false;
-    while 0 < left {
-        left = left - 1;
-        bad = absent(run, left) | bad;
+    for i in (0..n).rev() {
+        bad = absent(run, i) | bad;
     }
     bad
 }
@@ -93,7 +91,8 @@ fn left_after(run: &[u32], j: usize, left: usize) -> usize
     left - within(one_if(some) as usize, left)
 }
 
-// The place of the recorded barrier number i.
+// The place of the recorded barrier number i. A `while`: a `for` would need an answer for a run that
+// ends before, which the contract excludes.
 fn barrier_place(run: &[u32], count: usize, i: usize) -> usize
     requires { i < length (buffer_barrier_commands (buffer_barriers (record { run = run.now; count = count }))) }
     ensures { Recorded run.now count i result }
@@ -107,59 +106,42 @@ fn barrier_place(run: &[u32], count: usize, i: usize) -> usize
     j
 }
 
-pub fn barrier_command(run: &[u32], batch: Barriers, i: usize) -> Command
-    requires { BarrierAllowed run.now batch i }
-    ensures { result ≡ barrier_command_at run.now batch i }
-{
-    let j = barrier_place(run, batch.count, i);
-    let at = 3 * j;
-    Command::BufferBarrier(run[at], run[at + 2])
+// A batch with the barriers that its commands are worked out from.
+#[derive(Clone, Copy)]
+pub struct BarrierCommands<'a> {
+    pub run: &'a [u32],
+    pub batch: &'a Barriers,
 }
 
-fn fill_barriers(list: &mut [Record], run: &[u32], at: usize, n: usize, batch: Barriers)
-    requires { (at + n ≤ length list.old) × ((i : ℕ) → i < n → BarrierAllowed run.now batch i) }
-    ensures { list.new ≡ filled (λ i. record_of (barrier_command_at run.now batch i)) list.old at n }
-{
-    let mut i: usize = 0;
-    while i < n {
-        let c = barrier_command(run, batch, i);
-        list[at + i] = Record { command: c };
-        i += 1;
+impl<'a> Batch for BarrierCommands<'a> {
+    ghost place_of = { λ b. b.batch.now.at };
+
+    ghost count_of = { λ b. b.batch.now.n };
+
+    ghost Allowed = { λ b. BarrierAllowed b.run.now b.batch.now };
+
+    ghost command_at = { λ b. barrier_command_at b.run.now b.batch.now };
+
+    fn at(&self) -> usize {
+        self.batch.at
+    }
+
+    fn count(&self) -> usize {
+        self.batch.n
+    }
+
+    fn command(&self, i: usize) -> Command {
+        let j = barrier_place(self.run, self.batch.count, i);
+        let at = 3 * j;
+        Command::BufferBarrier(self.run[at], self.run[at + 2])
     }
 }
 
-fn barriers_batch(plan: BarrierPlan) -> Barriers
-    ensures { result ≡ plan.batch }
-{
-    plan.batch
-}
-
-fn barriers_at(batch: Barriers) -> usize
-    ensures { result ≡ batch.at }
-{
-    batch.at
-}
-
-fn barriers_count(batch: Barriers) -> usize
-    ensures { result ≡ batch.n }
-{
-    batch.n
-}
-
+// As `copies_answer` and `resolved_answer` but for the plan: the contracts name the answer of each.
 pub fn barriers_answer(plan: BarrierPlan, s: State) -> Answer
     ensures { result ≡ barrier_answer plan s }
 {
     let outcome = plan.outcome;
     let state = with_progress(s, plan.progress);
     Answer { outcome, state }
-}
-
-pub(crate) fn record_barriers(list: &mut [Record], run: &[u32], plan: BarrierPlan)
-    requires { (plan.batch.at + plan.batch.n ≤ length list.old) × ((i : ℕ) → i < plan.batch.n → BarrierAllowed run.now plan.batch i) }
-    ensures { list.new ≡ filled (λ i. record_of (barrier_command_at run.now plan.batch i)) list.old plan.batch.at plan.batch.n }
-{
-    let batch = barriers_batch(plan);
-    let at = barriers_at(batch);
-    let n = barriers_count(batch);
-    fill_barriers(list, run, at, n, batch);
 }

@@ -1,16 +1,14 @@
-// Copies between buffers: the regions, the command by its place, and how a plan of them is written
-// into the list. The contracts cite specs/Regions.antt.
-ghost use Rattle.std.specs.Prelude.{ℕ, ◌+◌, ◌*◌, ◌<◌, ◌≤◌, ◌≡◌, length};
+// Copies between buffers: the regions, the plan and its batch. The contracts cite specs/Regions.antt.
+ghost use Rattle.std.specs.Prelude.{◌+◌, ◌*◌, ◌<◌, ◌≡◌, length};
 ghost use Rattle.records.specs.Check.{some?};
-ghost use Rattle.walks.specs.Fill.{filled};
-ghost use Rattle.calls.specs.Did.{record_of};
 ghost use Rattle.calls.specs.Transfers.{regions_of, empty_copy, copy_command};
 ghost use Rattle.transfer_calls.specs.Regions.{region_at, CopyAllowed, copy_at, copy_answer};
 
 use crate::threes::elements;
+use calls::batch::Batch;
 use calls::parts::with_progress;
 use records::args::Buffer;
-use records::command::{BufferCopy, Command, Record};
+use records::command::{BufferCopy, Command};
 use records::outcome::Outcome;
 use records::state::{Answer, Progress, State};
 
@@ -35,6 +33,7 @@ pub struct CopyPlan {
     pub outcome: Outcome,
 }
 
+// Three numbers a place: `region_at` of the clause reads the flat run.
 fn region_at(run: &[u64], i: usize) -> BufferCopy
     requires { 3 * i + 2 < length run.now }
     ensures { result ≡ region_at run.now i }
@@ -58,11 +57,10 @@ pub(crate) fn region_count(run: &[u64], count: usize) -> usize
 pub(crate) fn empty_region(run: &[u64], count: usize) -> bool
     ensures { result ≡ some? empty_copy (regions_of (record { run = run.now; count = count })) }
 {
-    let mut left = elements(run.len(), count);
+    let n = elements(run.len(), count);
     let mut bad = false;
-    while 0 < left {
-        left = left - 1;
-        let c = region_at(run, left);
+    for i in (0..n).rev() {
+        let c = region_at(run, i);
         bad = (c.size == 0) | bad;
     }
     bad
@@ -90,44 +88,36 @@ fn copy_of(src: Buffer, dst: Buffer, copy: BufferCopy) -> Command
     }
 }
 
-pub fn copy_command(run: &[u64], batch: Copies, i: usize) -> Command
-    requires { CopyAllowed run.now batch i }
-    ensures { result ≡ copy_at run.now batch i }
-{
-    let src = batch.src;
-    let dst = batch.dst;
-    let copy = region_at(run, i);
-    copy_of(src, dst, copy)
+// A batch with the regions that its commands are worked out from.
+#[derive(Clone, Copy)]
+pub struct CopyCommands<'a> {
+    pub run: &'a [u64],
+    pub batch: &'a Copies,
 }
 
-fn fill_copies(list: &mut [Record], run: &[u64], at: usize, n: usize, batch: Copies)
-    requires { (at + n ≤ length list.old) × ((i : ℕ) → i < n → CopyAllowed run.now batch i) }
-    ensures { list.new ≡ filled (λ i. record_of (copy_at run.now batch i)) list.old at n }
-{
-    let mut i: usize = 0;
-    while i < n {
-        let c = copy_command(run, batch, i);
-        list[at + i] = Record { command: c };
-        i += 1;
+impl<'a> Batch for CopyCommands<'a> {
+    ghost place_of = { λ b. b.batch.now.at };
+
+    ghost count_of = { λ b. b.batch.now.n };
+
+    ghost Allowed = { λ b. CopyAllowed b.run.now b.batch.now };
+
+    ghost command_at = { λ b. copy_at b.run.now b.batch.now };
+
+    fn at(&self) -> usize {
+        self.batch.at
     }
-}
 
-fn copies_batch(plan: CopyPlan) -> Copies
-    ensures { result ≡ plan.batch }
-{
-    plan.batch
-}
+    fn count(&self) -> usize {
+        self.batch.n
+    }
 
-fn copies_at(batch: Copies) -> usize
-    ensures { result ≡ batch.at }
-{
-    batch.at
-}
-
-fn copies_count(batch: Copies) -> usize
-    ensures { result ≡ batch.n }
-{
-    batch.n
+    fn command(&self, i: usize) -> Command {
+        let src = self.batch.src;
+        let dst = self.batch.dst;
+        let copy = region_at(self.run, i);
+        copy_of(src, dst, copy)
+    }
 }
 
 pub fn copies_answer(plan: CopyPlan, s: State) -> Answer
@@ -136,14 +126,4 @@ pub fn copies_answer(plan: CopyPlan, s: State) -> Answer
     let outcome = plan.outcome;
     let state = with_progress(s, plan.progress);
     Answer { outcome, state }
-}
-
-pub(crate) fn record_copies(list: &mut [Record], run: &[u64], plan: CopyPlan)
-    requires { (plan.batch.at + plan.batch.n ≤ length list.old) × ((i : ℕ) → i < plan.batch.n → CopyAllowed run.now plan.batch i) }
-    ensures { list.new ≡ filled (λ i. record_of (copy_at run.now plan.batch i)) list.old plan.batch.at plan.batch.n }
-{
-    let batch = copies_batch(plan);
-    let at = copies_at(batch);
-    let n = copies_count(batch);
-    fill_copies(list, run, at, n, batch);
 }

@@ -1,14 +1,13 @@
-// Query results: the one command, the queries that are copied into the query list, and how a plan
-// of them is written. The contracts cite specs/Resolved.antt.
-ghost use Rattle.std.specs.Prelude.{ℕ, ◌+◌, ◌<◌, ◌≤◌, ◌≡◌, length};
-ghost use Rattle.walks.specs.Fill.{filled};
-ghost use Rattle.calls.specs.Did.{record_of};
+// Query results: the queries that are copied into the query list, the plan and its batch. The
+// contracts cite specs/Resolved.antt.
+ghost use Rattle.std.specs.Prelude.{◌+◌, ◌<◌, ◌≤◌, ◌≡◌, length};
 ghost use Rattle.calls.specs.Transfers.{queries_in};
 ghost use Rattle.transfer_calls.specs.Resolved.{resolved_at, resolved_answer, QueriesFit, queries_copied};
 
+use calls::batch::Batch;
 use calls::parts::with_progress;
 use records::check::within;
-use records::command::{Command, RangeU32, Record};
+use records::command::{Command, RangeU32};
 use records::outcome::Outcome;
 use records::state::{Answer, Progress, State};
 
@@ -63,54 +62,35 @@ pub fn copy_queries(queries: &mut [u32], set: &[u32], plan: ResolvedPlan)
     let from = plan.from;
     let to = plan.to;
     let n = plan.size;
-    let mut i: usize = 0;
-    while i < n {
-        queries[to + i] = set[from + i];
-        i += 1;
+    queries[to..to + n].copy_from_slice(&set[from..from + n]);
+}
+
+impl Batch for Resolved {
+    ghost place_of = { λ b. b.at };
+
+    ghost count_of = { λ b. b.n };
+
+    ghost Allowed = { λ b i. i < 1 };
+
+    ghost command_at = { resolved_at };
+
+    fn at(&self) -> usize {
+        self.at
     }
-}
 
-pub fn resolved_command(batch: Resolved, i: usize) -> Command
-    requires { i < 1 }
-    ensures { result ≡ resolved_at batch i }
-{
-    let query_range = batch.range;
-    Command::CopyQueryResults {
-        query_range,
-        dst: batch.dst,
-        dst_target: batch.target,
-        dst_offset: batch.offset,
+    fn count(&self) -> usize {
+        self.n
     }
-}
 
-fn fill_resolved(list: &mut [Record], at: usize, n: usize, batch: Resolved)
-    requires { (at + n ≤ length list.old) × ((i : ℕ) → i < n → i < 1) }
-    ensures { list.new ≡ filled (λ i. record_of (resolved_at batch i)) list.old at n }
-{
-    let mut i: usize = 0;
-    while i < n {
-        let c = resolved_command(batch, i);
-        list[at + i] = Record { command: c };
-        i += 1;
+    fn command(&self, i: usize) -> Command {
+        let query_range = self.range;
+        Command::CopyQueryResults {
+            query_range,
+            dst: self.dst,
+            dst_target: self.target,
+            dst_offset: self.offset,
+        }
     }
-}
-
-fn resolved_batch(plan: ResolvedPlan) -> Resolved
-    ensures { result ≡ plan.batch }
-{
-    plan.batch
-}
-
-fn resolved_at(batch: Resolved) -> usize
-    ensures { result ≡ batch.at }
-{
-    batch.at
-}
-
-fn resolved_count(batch: Resolved) -> usize
-    ensures { result ≡ batch.n }
-{
-    batch.n
 }
 
 pub fn resolved_answer(plan: ResolvedPlan, s: State) -> Answer
@@ -119,14 +99,4 @@ pub fn resolved_answer(plan: ResolvedPlan, s: State) -> Answer
     let outcome = plan.outcome;
     let state = with_progress(s, plan.progress);
     Answer { outcome, state }
-}
-
-pub(crate) fn record_resolved(list: &mut [Record], plan: ResolvedPlan)
-    requires { (plan.batch.at + plan.batch.n ≤ length list.old) × ((i : ℕ) → i < plan.batch.n → i < 1) }
-    ensures { list.new ≡ filled (λ i. record_of (resolved_at plan.batch i)) list.old plan.batch.at plan.batch.n }
-{
-    let batch = resolved_batch(plan);
-    let at = resolved_at(batch);
-    let n = resolved_count(batch);
-    fill_resolved(list, at, n, batch);
 }

@@ -7,8 +7,9 @@ ghost use Rattle.calls.specs.Transfers.{queries_over};
 ghost use Rattle.transfer_calls.specs.Resolved.{ResolvedOf};
 
 use crate::resolved::{
-    Resolved, ResolvedPlan, copy_queries, query_count, range_of, record_resolved, resolved_answer,
+    Resolved, ResolvedPlan, copy_queries, query_count, range_of, resolved_answer,
 };
+use calls::batch::record;
 use calls::judge::{Counts, judge, past_u32, query_rooms, spot_of};
 use calls::phase::{in_open, range_asks};
 use pass::marks::over_run;
@@ -46,6 +47,8 @@ fn queries_over(at: usize, start: u32, end: u32) -> bool
     past_u32(at, asked(start, end))
 }
 
+// The count beside its run: one above the run is refused (condition 7), which a slice could not
+// say.
 pub fn plan_copy_query_results(
     set: &[u32],
     room: usize,
@@ -125,6 +128,6 @@ pub fn copy_query_results(
         offset,
     );
     copy_queries(queries, set, plan);
-    record_resolved(list, plan);
+    record(list, &plan.batch);
     resolved_answer(plan, s)
 }

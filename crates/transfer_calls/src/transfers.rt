@@ -8,12 +8,13 @@ ghost use Rattle.transfer_calls.specs.Barriers.{BarriersOf};
 ghost use Rattle.transfer_calls.specs.Regions.{CopiesOf};
 
 use crate::barriers::{
-    BarrierPlan, Barriers, barrier_absent, barrier_count, barriers_answer, record_barriers,
+    BarrierCommands, BarrierPlan, Barriers, barrier_absent, barrier_count, barriers_answer,
 };
-use crate::regions::{Copies, CopyPlan, copies_answer, empty_region, record_copies, region_count};
+use crate::regions::{Copies, CopyCommands, CopyPlan, copies_answer, empty_region, region_count};
 use crate::threes::over_run;
+use calls::batch::record;
 use calls::judge::{commands_only, judge, list_rooms, spot_of};
-use calls::phase::{in_open, run_asks};
+use calls::phase::{in_open, in_phase, run_asks};
 use records::args::Buffer;
 use records::check::broken_limits;
 use records::command::Record;
@@ -26,13 +27,9 @@ fn barrier_asks(allowed: bool, absent: bool, short: bool) -> Conditions
     ensures { result ≡ record { phase = not allowed; many = no; range = no; absent = absent; kind = no; sum = no; room = short } }
 {
     Conditions {
-        phase: !allowed,
-        many: false,
-        range: false,
         absent,
-        kind: false,
-        sum: false,
         room: short,
+        ..in_phase(allowed)
     }
 }
 
@@ -43,6 +40,8 @@ fn on_board(some: bool, n: usize) -> usize
     if some { n } else { 0 }
 }
 
+// The count beside its run: one above the run is refused (condition 7), which a slice could not
+// say.
 pub fn plan_transition_buffers(
     barriers: &[u32],
     room: usize,
@@ -87,7 +86,13 @@ pub fn transition_buffers(
     ensures { Lists caps s (transition_buffers (record { run = barriers.now; count = count })) list.old result list.new }
 {
     let plan = plan_transition_buffers(barriers, list.len(), count, caps, s);
-    record_barriers(list, barriers, plan);
+    record(
+        list,
+        &BarrierCommands {
+            run: barriers,
+            batch: &plan.batch,
+        },
+    );
     barriers_answer(plan, s)
 }
 
@@ -140,6 +145,12 @@ pub fn copy_buffer_to_buffer(
     ensures { Lists caps s (copy_buffer_to_buffer src dst (record { run = regions.now; count = count })) list.old result list.new }
 {
     let plan = plan_copy_buffer_to_buffer(regions, list.len(), count, caps, s, src, dst);
-    record_copies(list, regions, plan);
+    record(
+        list,
+        &CopyCommands {
+            run: regions,
+            batch: &plan.batch,
+        },
+    );
     copies_answer(plan, s)
 }

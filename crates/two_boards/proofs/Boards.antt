@@ -3,7 +3,7 @@ use Prim.Native.Nat.{ℕ, zero, suc, ◌+◌, ◌*◌}
 use mathlib.Core.Path.{◌≡◌, refl, sym, ap, ap₂, ◌∙◌, subst}
 use mathlib.Core.Bool.{Bool, true, false, cond, ◌&&◌, ◌||◌}
 use mathlib.Core.List.{List, [], ◌∷◌, map}
-use mathlib.Core.Option.{Option, none, some}
+use Rattle.std.specs.Prelude.{Option, None, Some}
 use lib.Dec.{eqb}
 use lib.Ieee.{Float}
 use borrow.Author.Tests.{eqb-true, eq-eqb}
@@ -52,18 +52,18 @@ format-self x =
     both _ _ (itself integer x.element_count) (both _ _ (eq-eqb x.element_format x.element_format refl) (kind-self x.attrib_kind))
 
 source-self : (x : Option Source) → sources_alike x x ≡ true
-source-self none = refl
-source-self (some x) =
+source-self None = refl
+source-self (Some x) =
     both _ _ (eq-eqb x.buffer x.buffer refl)
     (both _ _ (eq-eqb x.first x.first refl) (both _ _ (eq-eqb x.stride x.stride refl) (step-self x.step)))
 
 location-self : (x : Option Fetch) → location_alike x x ≡ true
-location-self none = refl
-location-self (some x) = both _ _ (format-self x.format) (source-self x.source)
+location-self None = refl
+location-self (Some x) = both _ _ (format-self x.format) (source-self x.source)
 
 program-self : (x : Option ℕ) → same_program x x ≡ true
-program-self none = refl
-program-self (some p) = eq-eqb p p refl
+program-self None = refl
+program-self (Some p) = eq-eqb p p refl
 
 color-self : (same : Float → Float → Bool) → Reflexive same → (x : ColorF32) → same_color same x x ≡ true
 color-self same h x = both _ _ (h x.r) (both _ _ (h x.g) (both _ _ (h x.b) (h x.a)))
@@ -82,7 +82,7 @@ at_each f g [] e i h = false-true h
 at_each f g (a ∷ l) e i h = go (eqb i a.location) refl h (λ k. at_each f g l (ap tail e) i k)
   where
     head : List (Option Fetch) → Option Fetch
-    head [] = none
+    head [] = None
     head (x ∷ xs) = x
 
     tail : List (Option Fetch) → List (Option Fetch)

@@ -5,7 +5,7 @@ use Prim.Native.Nat.{ℕ, zero, suc, ◌<◌}
 use mathlib.Core.Path.{◌≡◌, refl, sym, ap, ◌∙◌, subst}
 use mathlib.Core.Bool.{Bool, true, false, cond}
 use mathlib.Core.List.{List, [], ◌∷◌}
-use mathlib.Core.Option.{Option, none, some}
+use Rattle.std.specs.Prelude.{Option, None, Some}
 use native.Mathlib.Omega.{arith}
 use lib.Ieee.{binary32, to_bits, of_bits, eq}
 use lib.IntN.{pos}
@@ -25,15 +25,9 @@ use Rattle.records.specs.Start.{start_attribute, start_depth_bias, start_immedia
 use Rattle.records.specs.declared.check.Rooms.{Rooms}
 use Rattle.records.specs.declared.command.BufferBinding.{BufferBinding}
 use Rattle.records.specs.declared.command.ColorF32.{ColorF32}
-use Rattle.records.specs.declared.command.OptionU32.TheVariants.{None}
 use Rattle.records.specs.declared.command.VertexAttribKind.TheVariants.{Float}
 use Rattle.records.specs.declared.command.VertexStepMode.TheVariants.{Instance}
-use Rattle.records.specs.declared.pass.OptionDepthStencil.TheVariants as target
-use Rattle.records.specs.declared.pass.OptionTimestampWrites.TheVariants as writes
 use Rattle.records.specs.declared.pass.RenderPassDescriptor.{RenderPassDescriptor}
-use Rattle.records.specs.declared.pipeline.OptionDepthState.TheVariants as depth
-use Rattle.records.specs.declared.pipeline.OptionStencilState.TheVariants as stencil
-use Rattle.records.specs.declared.pipeline.OptionVertexBufferDesc.TheVariants as layout
 use Rattle.records.specs.declared.pipeline.PrivateCapabilities.{PrivateCapabilities}
 use Rattle.records.specs.declared.pipeline.RenderPipeline.{RenderPipeline}
 use Rattle.slots.specs.Prepare.{buffer_commands, sent_of, attribute_commands}
@@ -81,8 +75,8 @@ plain_pass =
       sample_count = 1;
       color_attachments = replicate 8 no_place;
       color_attachment_count = 0;
-      depth_stencil_attachment = target.None;
-      timestamp_writes = writes.None;
+      depth_stencil_attachment = None;
+      timestamp_writes = None;
     }
 
 -- location 1 is fetched from slot 0, which steps 8 bytes by instance
@@ -100,7 +94,7 @@ pipeline =
           };
       topology = TriangleList;
       primitive = record { front_face = Ccw; cull_mode = cull.None; unclipped_depth = false; polygon_mode = Fill };
-      vertex_buffers = record { desc = layout.Some (record { step = Instance; stride = 8 }) } ∷ replicate 15 no_layout;
+      vertex_buffers = record { desc = Some (record { step = Instance; stride = 8 }) } ∷ replicate 15 no_layout;
       vertex_buffer_count = 1;
       vertex_attributes =
           record { location = 1; offset = 4; buffer_index = 0; format_desc = record { element_count = pos 2; element_format = 5126; attrib_kind = Float } }
@@ -108,9 +102,9 @@ pipeline =
       vertex_attribute_count = 1;
       color_targets = replicate 8 start_target;
       color_target_count = 0;
-      depth = depth.None;
+      depth = None;
       depth_bias = start_depth_bias;
-      stencil = stencil.None;
+      stencil = None;
       alpha_to_coverage_enabled = false;
     }
 
@@ -149,10 +143,10 @@ accepts false true = refl
 accepts false false = refl
 
 -- the pipeline describes slot 0 alone
-bound : (f : ℕ → Option BufferBinding) (x : BufferBinding) (i : ℕ) → i < 16 → known (describes pipeline i) ≡ true → known (upd f 0 (some x) i) ≡ true
+bound : (f : ℕ → Option BufferBinding) (x : BufferBinding) (i : ℕ) → i < 16 → known (describes pipeline i) ≡ true → known (upd f 0 (Some x) i) ≡ true
 bound f x zero l h = refl
 bound f x (suc i) l h =
-    false-true (sym (ap (λ (t : Bool). known (cond t (given (get_or pipeline.vertex_buffers (suc i) no_layout).desc) none)) (le-ltb (suc i) 1 (omega arith))) ∙ h)
+    false-true (sym (ap (λ (t : Bool). known (cond t (given (get_or pipeline.vertex_buffers (suc i) no_layout).desc) None)) (le-ltb (suc i) 1 (omega arith))) ∙ h)
 
 premises : (layouts instancing : Bool) → Premises (board layouts instancing) empty (all_accepted calls)
 unfolding Premises

@@ -3,7 +3,7 @@ use Prim.Native.Nat.{ℕ, ◌+◌, ◌≤◌}
 use mathlib.Core.Path.{◌≡◌, refl, sym, ap, ◌∙◌, subst}
 use mathlib.Core.Bool.{true, false, not}
 use mathlib.Core.List.{List, [], ◌∷◌}
-use mathlib.Core.Option.{Option, none, some}
+use Rattle.std.specs.Prelude.{Option, None, Some}
 use native.Mathlib.Omega.{arith}
 use lib.ListN.{length}
 use Rattle.records.specs.Check.{some?, bad_descriptor}
@@ -29,7 +29,7 @@ pub record Kept (i : ImmediateState) (here there : Machine) : Type 0 where
   pub long : length i.words ≡ 64
   pub good : some? bad_descriptor (descriptors_of i) ≡ false
   pub apart : Apart (descriptors_of i)
-  pub sent : i.sent ≡ true → (p : ℕ) → there.program ≡ some p → Each (λ (d : ImmediateDesc). there.uniform p d.location ≡ some (value_of i.words d)) (descriptors_of i)
+  pub sent : i.sent ≡ true → (p : ℕ) → there.program ≡ Some p → Each (λ (d : ImmediateDesc). there.uniform p d.location ≡ Some (value_of i.words d)) (descriptors_of i)
 
 pub kept-begins : Kept start_immediates fresh fresh
 unfolding some?
@@ -58,12 +58,12 @@ module _ (i : ImmediateState) (m n : Machine) (K : Kept i m n) (first : ℕ) (ws
   new-long = overwritten-long i.words ws first fits ∙ K.long
 
   -- a descriptor that is not sent holds its words: they were sent before, and the call wrote none of them
-  holds : (p : ℕ) (l : List ImmediateDesc) → some? bad_descriptor l ≡ false → (i.sent ≡ true → Each (λ (d : ImmediateDesc). n.uniform p d.location ≡ some (value_of i.words d)) l)
-      → Each (λ (d : ImmediateDesc). sends i.sent first (first + length ws) d ≡ false → m.uniform p d.location ≡ some (value_of w d)) l
+  holds : (p : ℕ) (l : List ImmediateDesc) → some? bad_descriptor l ≡ false → (i.sent ≡ true → Each (λ (d : ImmediateDesc). n.uniform p d.location ≡ Some (value_of i.words d)) l)
+      → Each (λ (d : ImmediateDesc). sends i.sent first (first + length ws) d ≡ false → m.uniform p d.location ≡ Some (value_of w d)) l
   holds p [] g k = tt
   holds p (d ∷ l) g k = (here (good-cons d l g).0, holds p l (good-cons d l g).1 (λ e. (k e).1))
     where
-      here : Good d → sends i.sent first (first + length ws) d ≡ false → m.uniform p d.location ≡ some (value_of w d)
+      here : Good d → sends i.sent first (first + length ws) d ≡ false → m.uniform p d.location ≡ Some (value_of w d)
       here v e =
           let a : shares_word first (first + length ws) d ≡ false = or_left (shares_word first (first + length ws) d) (not i.sent) e in
           let b : i.sent ≡ true = not-false i.sent (or_right (shares_word first (first + length ws) d) (not i.sent) e) in
@@ -71,11 +71,11 @@ module _ (i : ImmediateState) (m n : Machine) (K : Kept i m n) (first : ℕ) (ws
           let v₂ = v.whole in
           let v₃ = v.ends in
           K.same p d.location ∙ (k b).0
-          ∙ ap (λ (x : List ℕ). some (record { ty = d.ty; bytes = bytes_of x })) (sym (unshared i.words ws first d fits (omega (arith, K.long)) a))
+          ∙ ap (λ (x : List ℕ). Some (record { ty = d.ty; bytes = bytes_of x })) (sym (unshared i.words ws first d fits (omega (arith, K.long)) a))
 
   same-loads : (q : Option ℕ) → n.program ≡ q → Same (loaded q w (filter (sends i.sent first (first + length ws)) ds) m.uniform) (loaded q w ds n.uniform)
-  same-loads none e = λ p l. loaded-none w (filter (sends i.sent first (first + length ws)) ds) m.uniform p l ∙ K.same p l ∙ sym (loaded-none w ds n.uniform p l)
-  same-loads (some p) e = filter_same p w (sends i.sent first (first + length ws)) ds m.uniform n.uniform K.apart K.same (holds p ds K.good (λ x. K.sent x p e))
+  same-loads None e = λ p l. loaded-none w (filter (sends i.sent first (first + length ws)) ds) m.uniform p l ∙ K.same p l ∙ sym (loaded-none w ds n.uniform p l)
+  same-loads (Some p) e = filter_same p w (sends i.sent first (first + length ws)) ds m.uniform n.uniform K.apart K.same (holds p ds K.good (λ x. K.sent x p e))
 
   pub kept-writes : Kept (record { descs = i.descs; count = i.count; words = w; sent = true }) (loaded_by w (filter (sends i.sent first (first + length ws)) ds) m) (loaded_by w ds n)
   kept-writes =
@@ -88,6 +88,6 @@ module _ (i : ImmediateState) (m n : Machine) (K : Kept i m n) (first : ℕ) (ws
         good = K.good;
         apart = K.apart;
         sent = λ e p q.
-            subst (λ (x : Option ℕ). Each (λ (d : ImmediateDesc). loaded x w ds n.uniform p d.location ≡ some (value_of w d)) ds) (sym q)
+            subst (λ (x : Option ℕ). Each (λ (d : ImmediateDesc). loaded x w ds n.uniform p d.location ≡ Some (value_of w d)) ds) (sym q)
             (all-loaded p w ds n.uniform K.apart);
       }

@@ -3,7 +3,7 @@ use Prim.Native.Nat.{ℕ, ◌+◌, ◌≤◌}
 use mathlib.Core.Path.{◌≡◌, refl, sym, ap, ap₂, ◌∙◌, subst}
 use mathlib.Core.Bool.{false}
 use mathlib.Core.List.{List, [], ◌∷◌, ◌++◌, append_assoc}
-use mathlib.Core.Option.{some}
+use Rattle.std.specs.Prelude.{Some}
 use native.Mathlib.Omega.{arith}
 use lib.ListN.{take, drop, length, length-append, length-drop}
 use lib.Seq.{take_at, drop_at, take-append-le, drop-append-le}
@@ -129,7 +129,7 @@ acts-append {f} {g} {xs} {ys} a b =
 
 -- the program is current
 abbrev pub in_use : ℕ → Machine → Machine
-in_use p m = record { program = some p; uniform = m.uniform }
+in_use p m = record { program = Some p; uniform = m.uniform }
 
 pub acts-uses : (p : ℕ) → Acts (in_use p) (SetProgram p ∷ [])
 unfolding play

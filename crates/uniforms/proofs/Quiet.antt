@@ -21,24 +21,15 @@ use Rattle.records.specs.declared.command.BufferCopy.{BufferCopy}
 use Rattle.records.specs.declared.command.ColorTargetDesc.{ColorTargetDesc}
 use Rattle.records.specs.declared.command.Command.{Command}
 use Rattle.records.specs.declared.command.Command.TheVariants.{Dispatch, DrawIndirect, DrawIndexedIndirect, CopyBufferToBuffer, ResetFramebuffer, BindAttachment, InvalidateAttachments, SetDrawColorBuffers, BufferBarrier, TextureBarrier, SetViewport, SetScissor, SetDepth, SetDepthBias, ConfigureDepthStencil, SetAlphaToCoverage, SetPrimitive, SetColorTarget, BindSampler, TimestampQuery, PushDebugGroup, PopDebugGroup, SetClipDistances}
-use Rattle.records.specs.declared.command.OptionU32.{OptionU32}
-use Rattle.records.specs.declared.command.OptionU32.TheVariants.{None, Some}
+use Rattle.std.specs.Prelude.{Option, None, Some}
+use Rattle.records.specs.declared.pass.TimestampWrites.{TimestampWrites}
+use Rattle.records.specs.declared.command.DepthState.{DepthState}
 use Rattle.records.specs.declared.command.SampleKind.{SampleKind}
 use Rattle.records.specs.declared.command.SampleKind.TheVariants as kind
 use Rattle.records.specs.declared.pass.ColorAttachment.{ColorAttachment}
 use Rattle.records.specs.declared.pass.ColorPlace.{ColorPlace}
 use Rattle.records.specs.declared.pass.DepthStencilAttachment.{DepthStencilAttachment}
-use Rattle.records.specs.declared.pass.OptionColorAttachment.{OptionColorAttachment}
-use Rattle.records.specs.declared.pass.OptionColorAttachment.TheVariants as place
-use Rattle.records.specs.declared.pass.OptionDepthStencil.{OptionDepthStencil}
-use Rattle.records.specs.declared.pass.OptionDepthStencil.TheVariants as target
-use Rattle.records.specs.declared.pass.OptionTimestampWrites.{OptionTimestampWrites}
-use Rattle.records.specs.declared.pass.OptionTimestampWrites.TheVariants as writes
 use Rattle.records.specs.declared.pass.RenderPassDescriptor.{RenderPassDescriptor}
-use Rattle.records.specs.declared.pipeline.OptionDepthState.{OptionDepthState}
-use Rattle.records.specs.declared.pipeline.OptionDepthState.TheVariants as depth
-use Rattle.records.specs.declared.pipeline.OptionStencilState.{OptionStencilState}
-use Rattle.records.specs.declared.pipeline.OptionStencilState.TheVariants as stencil
 use Rattle.records.specs.declared.pipeline.PipelineInner.{PipelineInner}
 use Rattle.records.specs.declared.pipeline.PrivateCapabilities.{PrivateCapabilities}
 use Rattle.records.specs.declared.pipeline.RenderPipeline.{RenderPipeline}
@@ -100,13 +91,13 @@ quiet-only true c e = quiet_one c e
 quiet-only false c e = quiet-nil
 
 -- ---- passes
-quiet-timestamp : (o : OptionU32) → Quiet (timestamp o)
+quiet-timestamp : (o : Option ℕ) → Quiet (timestamp o)
 quiet-timestamp None = quiet-nil
 quiet-timestamp (Some q) = quiet_one (TimestampQuery q) refl
 
-quiet-begin : (set : Lent) (t : OptionTimestampWrites) → Quiet (begin_timestamp set t)
-quiet-begin set writes.None = quiet-nil
-quiet-begin set (writes.Some t) = quiet-timestamp (query_at set t.beginning_of_pass_write_index)
+quiet-begin : (set : Lent) (t : Option TimestampWrites) → Quiet (begin_timestamp set t)
+quiet-begin set None = quiet-nil
+quiet-begin set (Some t) = quiet-timestamp (query_at set t.beginning_of_pass_write_index)
 
 quiet-push : (l : Label) (at : ℕ) → Quiet (push_label l at)
 quiet-push l at = quiet-cond l.present (quiet_one (PushDebugGroup (record { start = at; end = at + l.bytes.count })) refl) quiet-nil
@@ -115,9 +106,9 @@ quiet-pop : (t : Bool) → Quiet (pop_label t)
 quiet-pop true = quiet_one PopDebugGroup refl
 quiet-pop false = quiet-nil
 
-quiet-color : (caps : PrivateCapabilities) (n i : ℕ) (o : OptionColorAttachment) → Quiet (attach_place caps n i o)
-quiet-color caps n i place.None = quiet-nil
-quiet-color caps n i (place.Some a) =
+quiet-color : (caps : PrivateCapabilities) (n i : ℕ) (o : Option ColorAttachment) → Quiet (attach_place caps n i o)
+quiet-color caps n i None = quiet-nil
+quiet-color caps n i (Some a) =
     quiet_one (attach_color caps n i a)
     (quiet-either (resolves_in_place caps i a.ops a.resolve_target) (BindAttachment (GL_COLOR_ATTACHMENT0 + i) (view_or a.view a.resolve_target) None n)
     (BindAttachment (GL_COLOR_ATTACHMENT0 + i) a.view a.depth_slice 1) refl refl)
@@ -127,9 +118,9 @@ unfolding attach_colors
 quiet-colors caps n i [] = quiet-nil
 quiet-colors caps n i (p ∷ ps) = quiet-append (quiet-color caps n i p.attachment) (quiet-colors caps n (suc i) ps)
 
-quiet-depth : (o : OptionDepthStencil) → Quiet (attach_depth o)
-quiet-depth target.None = quiet-nil
-quiet-depth (target.Some d) = quiet_one (BindAttachment (depth_point d.view.aspects) d.view None 1) refl
+quiet-depth : (o : Option DepthStencilAttachment) → Quiet (attach_depth o)
+quiet-depth None = quiet-nil
+quiet-depth (Some d) = quiet_one (BindAttachment (depth_point d.view.aspects) d.view None 1) refl
 
 quiet-attachments : (caps : PrivateCapabilities) (d : RenderPassDescriptor) → Quiet (attachments caps d)
 quiet-attachments caps d = quiet-append (quiet-colors caps d.sample_count 0 (places_of d)) (quiet-depth d.depth_stencil_attachment)
@@ -140,9 +131,9 @@ quiet-clear n a kind.Uint = record { each = (refl, tt) }
 quiet-clear n a kind.Sint = record { each = (refl, tt) }
 quiet-clear n a kind.Depth = quiet-nil
 
-quiet-place : (n : ℕ) (o : OptionColorAttachment) → Quiet (clear_place n o)
-quiet-place n place.None = quiet-nil
-quiet-place n (place.Some a) = quiet-cond (clears a.ops) (quiet-clear n a a.view.kind) quiet-nil
+quiet-place : (n : ℕ) (o : Option ColorAttachment) → Quiet (clear_place n o)
+quiet-place n None = quiet-nil
+quiet-place n (Some a) = quiet-cond (clears a.ops) (quiet-clear n a a.view.kind) quiet-nil
 
 quiet-clears : (n : ℕ) (ps : List ColorPlace) → Quiet (clear_colors n ps)
 unfolding clear_colors
@@ -155,9 +146,9 @@ quiet-both true false d = record { each = (refl, tt) }
 quiet-both false true d = record { each = (refl, tt) }
 quiet-both false false d = quiet-nil
 
-quiet-cleared : (o : OptionDepthStencil) → Quiet (clear_depth o)
-quiet-cleared target.None = quiet-nil
-quiet-cleared (target.Some d) = quiet-both (clears d.depth_ops) (clears d.stencil_ops) d
+quiet-cleared : (o : Option DepthStencilAttachment) → Quiet (clear_depth o)
+quiet-cleared None = quiet-nil
+quiet-cleared (Some d) = quiet-both (clears d.depth_ops) (clears d.stencil_ops) d
 
 pub quiet-begin-render : (caps : PrivateCapabilities) (d : RenderPassDescriptor) (label : Label) (set : Lent) (at : ℕ) → Quiet (begin_render_commands caps d label set at)
 unfolding begin_render_commands
@@ -171,10 +162,10 @@ quiet-begin-render caps d label set at =
     (quiet-append (quiet-cond (to_external (places_of d)) quiet-nil (quiet_one (SetDrawColorBuffers d.color_attachment_count) refl))
     (quiet-append (quiet-clears 0 (places_of d)) (quiet-cleared d.depth_stencil_attachment))))))))
 
-pub quiet-begin-compute : (set : Lent) (t : OptionTimestampWrites) (label : Label) (at : ℕ) → Quiet (begin_timestamp set t ++ push_label label at)
+pub quiet-begin-compute : (set : Lent) (t : Option TimestampWrites) (label : Label) (at : ℕ) → Quiet (begin_timestamp set t ++ push_label label at)
 quiet-begin-compute set t label at = quiet-append (quiet-begin set t) (quiet-push label at)
 
-pub quiet-end-compute : (t : Bool) (o : OptionU32) → Quiet (pop_label t ++ timestamp o)
+pub quiet-end-compute : (t : Bool) (o : Option ℕ) → Quiet (pop_label t ++ timestamp o)
 quiet-end-compute t o = quiet-append (quiet-pop t) (quiet-timestamp o)
 
 quiet-unset : (v : VertexState) → Quiet (map unset_attribute (attributes_of v))
@@ -261,13 +252,13 @@ quiet-funcs s = quiet-faces (same_stencil_func s.front s.back) stencil_func (λ 
 quiet-ops : (s : StencilState) → Quiet (stencil_ops s)
 quiet-ops s = quiet-faces (same_stencil_ops s.front.ops s.back.ops && eqb s.front.mask_write s.back.mask_write) stencil_op (λ n x. refl) s
 
-quiet-depth-state : (o : OptionDepthState) → Quiet (depth_commands o)
-quiet-depth-state depth.None = quiet-nil
-quiet-depth-state (depth.Some d) = quiet_one (SetDepth d) refl
+quiet-depth-state : (o : Option DepthState) → Quiet (depth_commands o)
+quiet-depth-state None = quiet-nil
+quiet-depth-state (Some d) = quiet_one (SetDepth d) refl
 
-quiet-stencil : (o : OptionStencilState) → Quiet (stencil_commands o)
-quiet-stencil stencil.None = quiet-nil
-quiet-stencil (stencil.Some s) = quiet-append (quiet-funcs s) (quiet-ops s)
+quiet-stencil : (o : Option StencilState) → Quiet (stencil_commands o)
+quiet-stencil None = quiet-nil
+quiet-stencil (Some s) = quiet-append (quiet-funcs s) (quiet-ops s)
 
 quiet_each : (i : ℕ) (l : List ColorTargetDesc) → Quiet (each_target i l)
 unfolding each_target

@@ -5,7 +5,7 @@ use mathlib.Core.Path.{◌≡◌, refl, sym, ap, ◌∙◌, subst}
 use mathlib.Core.Bool.{Bool, true, false, cond, not, ◌||◌}
 use mathlib.Core.List.{List, [], ◌∷◌}
 use mathlib.Core.Logic.{◌⊎◌, inl, inr}
-use mathlib.Core.Option.{some}
+use Rattle.std.specs.Prelude.{Some}
 use native.Mathlib.Nat.{le_of_eq}
 use lib.Dec.{ltb, eqb}
 use lib.ListN.{length}
@@ -199,11 +199,11 @@ uniforms-same caps rooms s calls e P =
 pub uniforms-hold : (caps : PrivateCapabilities) (rooms : Rooms) (s : State) (calls : List Call) → carried caps rooms s begin_encoding ≡ true
     → Apartness (fed caps rooms (begun caps rooms s).state calls)
     → let i = (record_calls caps rooms (begun caps rooms s) calls).state.immediates in
-    (p : ℕ) → (ours caps rooms s calls).program ≡ some p → i.sent ≡ true
-    → Each (λ (d : ImmediateDesc). (ours caps rooms s calls).uniform p d.location ≡ some (record { ty = d.ty; bytes = bytes_of (words_of i.words d) })) (descriptors_of i)
+    (p : ℕ) → (ours caps rooms s calls).program ≡ Some p → i.sent ≡ true
+    → Each (λ (d : ImmediateDesc). (ours caps rooms s calls).uniform p d.location ≡ Some (record { ty = d.ty; bytes = bytes_of (words_of i.words d) })) (descriptors_of i)
 uniforms-hold caps rooms s calls e P p q t =
-    each-with (λ (d : ImmediateDesc). (rusts caps rooms s calls).uniform p d.location ≡ some (value_of i.words d)) (λ (d : ImmediateDesc). Unit {0})
-    (λ (d : ImmediateDesc). (ours caps rooms s calls).uniform p d.location ≡ some (value_of i.words d)) (descriptors_of i)
+    each-with (λ (d : ImmediateDesc). (rusts caps rooms s calls).uniform p d.location ≡ Some (value_of i.words d)) (λ (d : ImmediateDesc). Unit {0})
+    (λ (d : ImmediateDesc). (ours caps rooms s calls).uniform p d.location ≡ Some (value_of i.words d)) (descriptors_of i)
     (λ d h k. K.same p d.location ∙ h) (K.sent t p (sym K.program ∙ q)) (each-always (λ (d : ImmediateDesc). Unit {0}) (descriptors_of i) (λ d. tt))
   where
     i : ImmediateState

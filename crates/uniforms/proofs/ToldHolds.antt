@@ -5,7 +5,7 @@ use mathlib.Core.Path.{◌≡◌, refl, sym, ap, ap₂, ◌∙◌, subst}
 use mathlib.Core.Bool.{Bool, true, false, cond, not, ◌&&◌}
 use mathlib.Core.List.{List, [], ◌∷◌, ◌++◌}
 use mathlib.Core.Logic.{inl, inr}
-use mathlib.Core.Option.{Option, none, some}
+use Rattle.std.specs.Prelude.{Option, None, Some}
 use native.Mathlib.Omega.{arith}
 use lib.Dec.{ltb, eqb}
 use lib.ListN.{take, drop, length, get_or, length-drop, get_or-append, get_or-replicate}
@@ -125,29 +125,29 @@ value-told w f d e g h = ap (λ (x : List ℕ). record { ty = d.ty; bytes = x })
 -- ---- what a list of loads leaves, location by location
 module _ (w : List ℕ) (f : ℕ → ℕ) (e : length w ≡ 64) (h : (k : ℕ) → k < 64 → get_or w k 0 ≡ f k) where
   loads-some : (p : ℕ) (ds : List ImmediateDesc) (u : Uniforms) → some? bad_descriptor ds ≡ false → (q l : ℕ)
-      → loaded (some p) w ds u q l ≡ cond (eqb q p) (loaded_at f ds l (u q l)) (u q l)
+      → loaded (Some p) w ds u q l ≡ cond (eqb q p) (loaded_at f ds l (u q l)) (u q l)
   loads-some p [] u g q l = go (eqb q p)
     where
       go : (t : Bool) → u q l ≡ cond t (u q l) (u q l)
       go true = refl
       go false = refl
-  loads-some p (d ∷ ds) u g q l = loads-some p ds (load (some p) d.location (value_of w d) u) v.1 q l ∙ go (eqb q p) refl
+  loads-some p (d ∷ ds) u g q l = loads-some p ds (load (Some p) d.location (value_of w d) u) v.1 q l ∙ go (eqb q p) refl
     where
       v : Good d × (some? bad_descriptor ds ≡ false)
       v = good-cons d ds g
 
       go : (t : Bool) → eqb q p ≡ t
-          → cond t (loaded_at f ds l (cond t (upd (u p) d.location (some (value_of w d))) (u q) l)) (cond t (upd (u p) d.location (some (value_of w d))) (u q) l)
-          ≡ cond t (loaded_at f ds l (cond (eqb l d.location) (some (value_told f d)) (u q l))) (u q l)
+          → cond t (loaded_at f ds l (cond t (upd (u p) d.location (Some (value_of w d))) (u q) l)) (cond t (upd (u p) d.location (Some (value_of w d))) (u q) l)
+          ≡ cond t (loaded_at f ds l (cond (eqb l d.location) (Some (value_told f d)) (u q l))) (u q l)
       go true a =
-          ap₂ (λ (x : Value) (y : Option Value). loaded_at f ds l (cond (eqb l d.location) (some x) y)) (value-told w f d e v.0 h)
+          ap₂ (λ (x : Value) (y : Option Value). loaded_at f ds l (cond (eqb l d.location) (Some x) y)) (value-told w f d e v.0 h)
           (ap (λ (i : ℕ). u i l) (sym (eqb-true q p a)))
       go false a = refl
 
   loads-told : (o : Option ℕ) (ds : List ImmediateDesc) (u : Uniforms) → some? bad_descriptor ds ≡ false → (q l : ℕ)
       → loaded o w ds u q l ≡ cond (current o q) (loaded_at f ds l (u q l)) (u q l)
-  loads-told none ds u g q l = loaded-none w ds u q l
-  loads-told (some p) ds u g q l = loads-some p ds u g q l
+  loads-told None ds u g q l = loaded-none w ds u q l
+  loads-told (Some p) ds u g q l = loads-some p ds u g q l
 
 -- ---- the invariant: the state's descriptors and words, and what the machine holds, are told
 pub record Tells (i : ImmediateState) (n : Machine) (t : Told) : Type 0 where
@@ -303,24 +303,24 @@ module _ (caps : PrivateCapabilities) (s₀ s' : State) (r₀ r r' : Runs) (a : 
   uniforms p l = ap (λ (z : Recording). (held z.bytes z.list).uniform p l) recorded ∙ T.kept.same p l ∙ U.uniform p l
 
   -- of the descriptors that the state holds
-  holding : wrote_since (answers R) ≡ true → (p : ℕ) → (told untold (answers R)).program ≡ some p
-      → Each (λ (z : ImmediateDesc). (held_by y).uniform p z.location ≡ some (value_of x.state.immediates.words z)) (told untold (answers R)).descs
+  holding : wrote_since (answers R) ≡ true → (p : ℕ) → (told untold (answers R)).program ≡ Some p
+      → Each (λ (z : ImmediateDesc). (held_by y).uniform p z.location ≡ Some (value_of x.state.immediates.words z)) (told untold (answers R)).descs
   holding w p q =
-      subst (Each (λ (z : ImmediateDesc). (held_by y).uniform p z.location ≡ some (value_of x.state.immediates.words z))) U.descs
+      subst (Each (λ (z : ImmediateDesc). (held_by y).uniform p z.location ≡ Some (value_of x.state.immediates.words z))) U.descs
       (T.kept.sent (ap (λ (z : Recording). z.state.immediates.sent) (sym recorded) ∙ flag-of-run caps s₀ s' r₀ r r' a calls d e R ∙ w) p (U.program ∙ q))
 
   good : some? bad_descriptor (told untold (answers R)).descs ≡ false
   good = subst (λ (l : List ImmediateDesc). some? bad_descriptor l ≡ false) U.descs T.kept.good
 
   present : (p : ℕ) (ds : List ImmediateDesc) → some? bad_descriptor ds ≡ false
-      → Each (λ (z : ImmediateDesc). (held_by y).uniform p z.location ≡ some (value_of x.state.immediates.words z)) ds
-      → Each (λ (z : ImmediateDesc). (held_after s' r').uniform p z.location ≡ some (value_told (told untold (answers R)).word z)) ds
+      → Each (λ (z : ImmediateDesc). (held_by y).uniform p z.location ≡ Some (value_of x.state.immediates.words z)) ds
+      → Each (λ (z : ImmediateDesc). (held_after s' r').uniform p z.location ≡ Some (value_told (told untold (answers R)).word z)) ds
   present p [] g h = tt
   present p (z ∷ ds) g h = (
     uniforms p z.location
         ∙ sym (U.uniform p z.location)
         ∙ h.0
-        ∙ ap some (value-told x.state.immediates.words (told untold (answers R)).word z T.kept.long (good-cons z ds g).0 U.words),
+        ∙ ap Some (value-told x.state.immediates.words (told untold (answers R)).word z T.kept.long (good-cons z ds g).0 U.words),
     present p ds (good-cons z ds g).1 h.1,
   )
 

@@ -1,7 +1,7 @@
 -- The rows of Rows.antt by computation, the theorems on one list, and a location twice, which shows that their premise is needed. Assumes nothing.
 use mathlib.Core.Path.{◌≡◌, refl, sym, ◌∙◌}
 use mathlib.Core.List.{List, [], ◌∷◌, map}
-use mathlib.Core.Option.{Option, some}
+use Rattle.std.specs.Prelude.{Option, Some}
 use native.Mathlib.Omega.{arith}
 use lib.ListN.{length}
 use Rattle.mask.specs.Mask.{test_bit, bit_at, set_bit, without, mask_of, places_from}
@@ -45,7 +45,7 @@ unfolding Apartness fed
 its-apart = (λ a. tt) ⨾ (λ a. apart-three) ⨾ (λ a. tt) ⨾ (λ a. tt) ⨾ (λ a. tt) ⨾ (λ a. tt) ⨾ (λ a. tt) ⨾ (λ a. apart-three) ⨾ (λ a. tt) ⨾ tt
 
 abbrev six : Option Value
-six = some (record { ty = 5126; bytes = 6 ∷ 0 ∷ 0 ∷ 0 ∷ [] })
+six = Some (record { ty = 5126; bytes = 6 ∷ 0 ∷ 0 ∷ 0 ∷ [] })
 
 sun-here : (ours emulated rooms start_state sliding).uniform 1 7 ≡ six
 unfolding record_calls play outcome_of smallest some? bad_units among twice test_bit bit_at set_bit without mask_of places_from mask_by tabulate sampler_commands changed_units same_targets
@@ -87,17 +87,17 @@ unfolding Apartness fed outcome_of smallest some? bad_units among twice test_bit
 not-apart P = (P.1.0 refl).0.0 refl
 
 -- word 0 alone is sent, and the location holds it; the Rust sends word 1 behind it, and so the calls tell
-pub here-three : (ours emulated rooms start_state shared).uniform 1 0 ≡ some (record { ty = 5126; bytes = 3 ∷ 0 ∷ 0 ∷ 0 ∷ [] })
+pub here-three : (ours emulated rooms start_state shared).uniform 1 0 ≡ Some (record { ty = 5126; bytes = 3 ∷ 0 ∷ 0 ∷ 0 ∷ [] })
 unfolding record_calls play outcome_of smallest some? bad_units among twice test_bit bit_at set_bit without mask_of places_from mask_by tabulate sampler_commands changed_units same_targets
     begin_render_commands attach_colors resolves_from invalidations clear_colors bytes_of filter immediate_commands immediate_bytes immediates_over
 here-three = refl
 
-pub rust-two : (rusts emulated rooms start_state shared).uniform 1 0 ≡ some (record { ty = 5126; bytes = 2 ∷ 0 ∷ 0 ∷ 0 ∷ [] })
+pub rust-two : (rusts emulated rooms start_state shared).uniform 1 0 ≡ Some (record { ty = 5126; bytes = 2 ∷ 0 ∷ 0 ∷ 0 ∷ [] })
 unfolding rust_lists play outcome_of smallest some? bad_units among twice test_bit bit_at set_bit without mask_of places_from mask_by tabulate sampler_commands changed_units same_targets
     begin_render_commands attach_colors resolves_from invalidations clear_colors bytes_of filter immediate_commands immediate_bytes immediates_over
 rust-two = refl
 
-pub told-two : (told untold (fed emulated rooms (begun emulated rooms start_state).state shared)).uniform 1 0 ≡ some (record { ty = 5126; bytes = 2 ∷ 0 ∷ 0 ∷ 0 ∷ [] })
+pub told-two : (told untold (fed emulated rooms (begun emulated rooms start_state).state shared)).uniform 1 0 ≡ Some (record { ty = 5126; bytes = 2 ∷ 0 ∷ 0 ∷ 0 ∷ [] })
 unfolding told fed outcome_of smallest some? bad_units among twice test_bit bit_at set_bit without mask_of places_from mask_by tabulate sampler_commands changed_units same_targets
     begin_render_commands attach_colors resolves_from invalidations clear_colors bytes_of filter immediate_commands immediate_bytes immediates_over
 told-two = refl

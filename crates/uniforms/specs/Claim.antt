@@ -1,8 +1,7 @@
 -- WHAT IS CLAIMED (document 02, request 6), as three types, of the answers, states and runs that the functions hand back, for every list of calls, refused ones included.
 -- The theorems that have them: `uniforms-told-of-run`, `sends-of-run`, `uniforms-hold-of-run` (proofs/ToldHolds.antt, SendsOfRun.antt). What the Rust's list puts into the uniforms, which
 -- descriptors there are, which words, and what was sent since is told from the accepted calls alone (Told.antt, Since.antt); what a list does is the machine's (Uniforms.antt). Definitions only.
-use Rattle.std.specs.Prelude.{ℕ, ◌+◌, ◌-◌, ◌/◌, ◌≡◌, true, false, List, [], ◌∷◌, map, ◌⊎◌, take, drop}
-use Rattle.std.proofs.Math.Option.{some}
+use Rattle.std.specs.Prelude.{ℕ, ◌+◌, ◌-◌, ◌/◌, ◌≡◌, true, false, List, [], ◌∷◌, map, ◌⊎◌, take, drop, Some}
 use Rattle.records.specs.declared.command.Command.{Command}
 use Rattle.records.specs.declared.command.Command.TheVariants.{SetImmediates}
 use Rattle.records.specs.declared.command.ImmediateDesc.{ImmediateDesc}
@@ -56,4 +55,4 @@ UniformsHoldOfRun =
     (caps : PrivateCapabilities) (s₀ s' : State) (r₀ r r' : Runs) (a : Answer) (calls : List Call)
     → Did caps s₀ r₀ begin_encoding a r → a.outcome ≡ Done → (R : Ran caps a.state r calls s' r') → Apartness (answers R)
     → let t = told untold (answers R) in
-    wrote_since (answers R) ≡ true → (p : ℕ) → t.program ≡ some p → Each (λ (d : ImmediateDesc). (held_after s' r').uniform p d.location ≡ some (value_told t.word d)) t.descs
+    wrote_since (answers R) ≡ true → (p : ℕ) → t.program ≡ Some p → Each (λ (d : ImmediateDesc). (held_after s' r').uniform p d.location ≡ Some (value_told t.word d)) t.descs

@@ -1,7 +1,6 @@
 -- The machine of uniforms: OpenGL ES 3.2, 7.6 "Uniform Variables": a value belongs to its program object and stays until it is loaded again. Definitions only.
 -- `SetProgram` makes a program current; `SetImmediates` loads the uniform at its descriptor's location of that program with the marker bytes from its place on. "Other commands nothing" (document 01).
-use Rattle.std.specs.Prelude.{ℕ, List, [], ◌∷◌, take, drop}
-use Rattle.std.proofs.Math.Option.{Option, none, some}
+use Rattle.std.specs.Prelude.{ℕ, List, [], ◌∷◌, take, drop, Option, None, Some}
 use Rattle.tables.specs.Tabulate.{upd}
 use Rattle.records.specs.declared.command.ImmediateDesc.{ImmediateDesc}
 use Rattle.records.specs.declared.command.Command.{Command}
@@ -21,12 +20,12 @@ pub record Machine : Type 0 where
   pub uniform : Uniforms
 
 abbrev pub fresh : Machine
-fresh = record { program = none; uniform = λ p l. none }
+fresh = record { program = None; uniform = λ p l. None }
 
 -- the uniform at location l of the current program
 abbrev pub load : Option ℕ → ℕ → Value → Uniforms → Uniforms
-load none l v u = u
-load (some p) l v u = upd u p (upd (u p) l (some v))
+load None l v u = u
+load (Some p) l v u = upd u p (upd (u p) l (Some v))
 
 -- what a command is to the uniforms: it makes a program current, loads a uniform, or neither
 pub data Effect : Type 0 where
@@ -87,7 +86,7 @@ effect (SetClipDistances old n) = neither
 
 -- one command, with the marker bytes of its list
 abbrev pub exec : List ℕ → Machine → Effect → Machine
-exec bytes m (uses p) = record { program = some p; uniform = m.uniform }
+exec bytes m (uses p) = record { program = Some p; uniform = m.uniform }
 exec bytes m (loads d at) =
     record { program = m.program; uniform = load m.program d.location (record { ty = d.ty; bytes = take d.size_bytes (drop at bytes) }) m.uniform }
 exec bytes m neither = m

@@ -1,34 +1,16 @@
--- `slots::moved` meets its contract. Invariant: the mask of the slots below i. Measure: the slots left. Assumes nothing.
-use Prim.Native.Nat.{suc, ◌+◌, ◌<◌}
-use mathlib.Core.Path.{◌≡◌, refl}
+-- `slots::moved` meets its contract. Assumes nothing.
+use Prim.Native.Nat.{ℕ}
+use mathlib.Core.Bool.{not, ◌&&◌}
 use native.Mathlib.Omega.{arith}
-use Rattle.mask.specs.Mask.{mask_of}
-use Rattle.tables.specs.Tabulate.{tabulate}
-use Rattle.mask.specs.By.{mask_by, by-is, by_next}
+use lib.Dec.{eqb}
+use Rattle.mask.specs.Mask.{test_bit}
+use Rattle.mask.specs.By.{by-is}
 use Rattle.mask.specs.Laws.{test_zero}
-use Rattle.slots.proofs.moved.Invariants.{at}
+use Rattle.slots.specs.Vertex.{instance_at}
 use Rattle.slots.proofs.moved.Goals as goal
 
 -- no slot is stepped by instance
 pub returns-then-v-eq0 : goal.returns-then-v-eq0
 returns-then-v-eq0 c =
     let a = c.args in
-    by-is 16 0 (at a.v a.w) (omega arith) (λ i h. rw (c.if-v-eq0.true, test_zero i))
-
-pub loop-i-init : goal.loop-i-init
-unfolding mask_by tabulate mask_of
-loop-i-init c = (omega arith, refl)
-
-pub loop-i-preserved : goal.loop-i-preserved
-loop-i-preserved c =
-    let a = c.args in
-    let l = c.loop-i in
-    let p : l.i + 1 ≡ suc l.i = omega arith in
-    let h : l.i < 32 = omega arith in
-    (omega arith, rw (p, c.set_if-slots.ensures, c.test.ensures, l.invariant.1) (by_next l.i (at a.v a.w) h))
-
-pub returns : goal.returns
-returns c =
-    let l = c.loop-i in
-    let e : l.i ≡ 16 = omega arith in
-    rw e at l.invariant.1
+    by-is 16 0 (λ (i : ℕ). test_bit a.v.instance_vbuf_mask i && not (eqb a.w (instance_at a.v i))) (omega arith) (λ i h. rw (c.if-v-eq0.true, test_zero i))

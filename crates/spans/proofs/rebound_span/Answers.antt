@@ -30,8 +30,8 @@ returns c =
     let ok : accepted (refusal a.s) ≡ true = cc in
     let l : a.lower ≤ a.upper = omega (arith, c.if-upper-lower.false) in
     let low = low-described a.s ok in
-    let x : Exactly c.masks-m.result.always (Always a.caps a.s a.lower a.upper) =
-    rw (c.masks-m.ensures.0, c.working-high.ensures, c.working-low.ensures) (always-exact a.caps a.s low a.lower a.upper l) in
-    let y : Exactly c.masks-m.result.sometimes (Sometimes a.caps a.s a.lower a.upper) =
-    rw (c.masks-m.ensures.1, c.working-high.ensures, c.working-low.ensures) (sometimes-exact a.caps a.s low a.lower a.upper l) in
-    ((ok, l, x, y), numbers a.caps a.s a.lower a.upper (Masks c.masks-m.result.always c.masks-m.result.sometimes) (ok, l, x, y))
+    let x : Exactly c.masks-always.result.0 (Always a.caps a.s a.lower a.upper) =
+    rw (c.masks-always.ensures.0, c.working-high.ensures, c.working-low.ensures) (always-exact a.caps a.s low a.lower a.upper l) in
+    let y : Exactly c.masks-always.result.1 (Sometimes a.caps a.s a.lower a.upper) =
+    rw (c.masks-always.ensures.1, c.working-high.ensures, c.working-low.ensures) (sometimes-exact a.caps a.s low a.lower a.upper l) in
+    ((ok, l, x, y), numbers a.caps a.s a.lower a.upper (Masks c.masks-always.result.0 c.masks-always.result.1) (ok, l, x, y))

@@ -11,20 +11,20 @@ use Rattle.state_text.proofs.write_lines.Goals as goal
 pub loop-k-init : goal.loop-k-init
 loop-k-init c =
     let a = c.args in
-    (omega arith, start a.at (state_line a.s), laid-start a.out.now a.at (state_line a.s))
+    (start a.at (state_line a.s), laid-start a.out.now a.at (state_line a.s))
 
 pub shape_of-out : goal.shape_of-out
 shape_of-out c =
     let fit : (j : ℕ) → j ≤ 375 → c.args.at + length (lines_to j (state_line c.args.s)) ≤ length c.args.out.now = λ j h. omega (arith, c.requires, lines-le (state_line c.args.s) j 375 h) in
     let long : (j : ℕ) → j ≤ 375 → length (laid c.args.out.now c.args.at (lines_to j (state_line c.args.s))) ≡ length c.args.out.now = λ j h. laid-long c.args.out.now c.args.at (lines_to j (state_line c.args.s)) (fit j h) in
     let l = c.loop-k in
-    ap length l.invariant.2 ∙ long l.k l.invariant.0
+    ap length l.invariant.1 ∙ long l.k (omega arith)
 
 pub returns : goal.returns
 returns c =
     let l = c.loop-k in
     let e : l.k ≡ 375 = omega arith in
-    (rw e at l.invariant.2, rw e at l.invariant.1)
+    (rw e at l.invariant.1, rw e at l.invariant.0)
 
 pub write_next-i-requires : goal.write_next-i-requires
 write_next-i-requires c =
@@ -32,7 +32,7 @@ write_next-i-requires c =
     let long : (j : ℕ) → j ≤ 375 → length (laid c.args.out.now c.args.at (lines_to j (state_line c.args.s))) ≡ length c.args.out.now = λ j h. laid-long c.args.out.now c.args.at (lines_to j (state_line c.args.s)) (fit j h) in
     let l = c.loop-k in
     let h = fit (suc l.k) (omega arith) in
-    omega (arith, h, long l.k l.invariant.0, ap length l.invariant.2, next-long l.k (state_line c.args.s), l.invariant.1)
+    omega (arith, h, long l.k (omega arith), ap length l.invariant.1, next-long l.k (state_line c.args.s), l.invariant.0)
 
 pub loop-k-preserved : goal.loop-k-preserved
 loop-k-preserved c =
@@ -41,14 +41,13 @@ loop-k-preserved c =
     let w = c.write_next-i.ensures in
     let f = state_line a.s in
     let t = lines_to l.k f in
-    let fits : a.at + length t ≤ length a.out.now = omega (arith, c.requires, lines-le f l.k 375 l.invariant.0) in
+    let fits : a.at + length t ≤ length a.out.now = omega (arith, c.requires, lines-le f l.k 375 (omega arith)) in
     let e : l.k + 1 ≡ suc l.k = omega arith in (
-      omega arith,
-      rw e (omega (arith, w.1, l.invariant.1, next-long l.k f)),
+      rw e (omega (arith, w.1, l.invariant.0, next-long l.k f)),
       rw e
           (w.0
-          ∙ ap (λ x. laid x l.i (f l.k)) l.invariant.2
-          ∙ ap (λ i. laid (laid a.out.now a.at t) i (f l.k)) l.invariant.1
+          ∙ ap (λ x. laid x l.i (f l.k)) l.invariant.1
+          ∙ ap (λ i. laid (laid a.out.now a.at t) i (f l.k)) l.invariant.0
           ∙ laid-join a.out.now a.at t (f l.k) fits
           ∙ ap (laid a.out.now a.at) (next-lines l.k f)),
     )

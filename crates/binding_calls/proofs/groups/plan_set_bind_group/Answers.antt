@@ -54,7 +54,7 @@ returns c =
     } in
     let k = found a.room s asks phase cs _ _ _ _ _ c.list_rooms-rooms.ensures c.broken_limits-broken.ensures (rw (swept.0, more) (sym (length-append gs (sampler_commands new units)))) c.commands_only-more.ensures
     (rw (c.group_asks-c.ensures, swept.1, swept.5, swept.6, swept.7, c.over_run-short.ensures) at c.judge-v.ensures) c.spot_of-place.ensures in
-    let after = bind-moved _ _ new _ s _ _ c.taken_bind-after.ensures swept.2 k.sure in (
+    let after = bind-moved _ _ new _ s _ _ c.taken-after.ensures swept.2 k.sure in (
       (k.said, next a.room s asks phase cs k (with_bind new s) _ after),
       laid a.room s asks phase cs _ _ _ k.here k.many (λ h i l. ap (λ (x : List Command). get_or x i PopDebugGroup) all),
       λ i h.

@@ -20,5 +20,5 @@ returns c =
       c.broken_limits-broken.ensures,
     ) at c.judge-v.ensures in
     planned a.room a.bytes_room a.s a.offset ws w.result w.ensures (verdict a.room a.bytes_room a.s a.offset ws w.result w.ensures v)
-    _ _ _ _ _ _ c.taken_words-words.ensures refl
+    _ _ _ _ _ _ c.taken-words.ensures refl
     c.spot_of-place.ensures c.spot_of-put.ensures

@@ -1,6 +1,6 @@
 -- `bindings::group_command::group_command_at` meets its contract.
 -- Invariant: what stands at `left` of the commands that are left stands at k of all, and no offset that is left is over where none is.
--- Measure: the entries left. Assumes nothing.
+-- Assumes nothing.
 use Prim.Native.Nat.{ℕ, suc, ◌+◌, ◌≤◌, ◌<◌}
 use mathlib.Core.Bool.{false}
 use mathlib.Core.List.{List, [], ◌∷◌}

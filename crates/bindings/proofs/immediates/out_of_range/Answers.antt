@@ -18,4 +18,4 @@ same x n = go (ltb 64 (x + n)) refl
 pub returns : goal.returns
 returns c =
     let a = c.args in
-    rw (c.within.ensures, same (a.offset / 4) a.count)
+    rw (c.min.ensures, same (a.offset / 4) a.count)

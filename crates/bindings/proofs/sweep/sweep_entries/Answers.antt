@@ -1,5 +1,5 @@
 -- `bindings::sweep::sweep_entries` meets its contract.
--- Invariant: the entries and offsets that are left, with what has been found, come to what all of them do. Measure: the entries left. Assumes nothing.
+-- Invariant: the entries and offsets that are left, with what has been found, come to what all of them do. Assumes nothing.
 use Prim.Native.Nat.{suc, ◌+◌, ◌≤◌, ◌<◌}
 use mathlib.Core.List.{List}
 use mathlib.Core.Path.{◌≡◌, refl, sym, ap, ◌∙◌}

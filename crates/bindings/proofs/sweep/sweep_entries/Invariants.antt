@@ -1,6 +1,6 @@
 -- `bindings::sweep::sweep_entries` meets its contract.
--- Invariant: the entries and offsets that are left, with what has been found, come to what all of them do. Measure: the entries left. Assumes nothing.
-use Prim.Native.Nat.{◌-◌, ◌≤◌}
+-- Invariant: the entries and offsets that are left, with what has been found, come to what all of them do. Assumes nothing.
+use Prim.Native.Nat.{◌≤◌}
 use mathlib.Core.Path.{◌≡◌}
 use lib.ListN.{take, drop}
 use Rattle.bindings.specs.Sweep.{swept}
@@ -15,6 +15,3 @@ invariant-loop-j l =
     × (l.sweep.used ≤ l.j)
     × (swept (drop l.j (cut l.n l.entries l.contents)) (drop l.sweep.used (take l.count l.offsets)) l.sweep
     ≡ swept (cut l.n l.entries l.contents) (take l.count l.offsets) l.initial.sweep)
-
-abbrev pub decreases-loop-j : goal.decreases-loop-j
-decreases-loop-j l = l.n - l.j

@@ -1,5 +1,5 @@
 -- One more location.
-use Rattle.std.proofs.Common.{◌≡◌, ℕ, ◌+◌, Bool, ◌&&◌, ◌∙◌, sym, ap, ap₂, refl, add-one, arith}
+use Rattle.std.proofs.Common.{◌≡◌, ℕ, ◌+◌, Bool, ◌&&◌, ◌∙◌, sym, ap, ap₂, refl, add-one}
 use Rattle.machine.specs.Found.{fetch_at}
 use Rattle.boards.specs.declared.settings.Settings.{Settings}
 use Rattle.boards.specs.Alike.{location_alike, all_below}
@@ -16,7 +16,7 @@ one_more x y l p q e f = ap₂ (λ (s t : Bool). s && t) e f ∙ ap (λ (n : ℕ
 
 pub loop-l-init : goal.loop-l-init
 unfolding all_below
-loop-l-init c = record { upto = omega arith; so_far = refl }
+loop-l-init c = refl
 
 pub loop-l-preserved : goal.loop-l-preserved
-loop-l-preserved c = record { upto = omega arith; so_far = one_more c.args.x c.args.y _ _ _ c.location_alike-same.ensures c.loop-l.invariant.so_far }
+loop-l-preserved c = one_more c.args.x c.args.y _ _ _ c.location_alike-same.ensures c.loop-l.invariant

@@ -1,5 +1,4 @@
 -- The turns so far have been played.
-use Rattle.std.proofs.Common.{◌-◌}
 use Rattle.list_walks.proofs.Turned.{Turned}
 use Rattle.boards.specs.Alike.{same_bits}
 use Rattle.boards.specs.Side.{turn_of}
@@ -7,6 +6,3 @@ use Rattle.boards.proofs.compare.compare.Given as goal
 
 abbrev pub invariant-loop-i : goal.invariant-loop-i
 invariant-loop-i l = Turned (λ m. m.a.at) (λ m. m.b.at) (turn_of same_bits) l.a l.b l.other l.n l.initial.m l.m l.i
-
-abbrev pub decreases-loop-i : goal.decreases-loop-i
-decreases-loop-i l = l.n - l.i

@@ -28,7 +28,7 @@ returns c =
     let o = outcome_of no_rooms s m in
     let asks : Conditions =
     record { phase = not (in_render s.progress.phase); many = false; range = leb 16 a.index; absent = eqb a.buffer 0; kind = false; sum = false; room = false } in
-    let k = rw (c.no_rooms-rooms.ensures, c.nothing-more.ensures, c.broken_limits-broken.ensures, c.in_render.ensures) at c.judge-v.ensures in
+    let k = rw (c.no_rooms-rooms.ensures, c.nothing-more.ensures, c.broken_limits-broken.ensures, c.in_phase.ensures, c.in_render.ensures) at c.judge-v.ensures in
     let low : c.judge-v.result.ok ≡ true → a.index < 16 =
     λ h. leb-false 16 a.index (no-range no_rooms s asks s.progress.phase nothing (sym k.1 ∙ h)) in
     let new = bound_slot a.index a.buffer a.offset s.vertex in

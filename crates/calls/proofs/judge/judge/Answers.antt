@@ -1,6 +1,6 @@
 -- `calls::judge::judge` meets its contract. Assumes nothing.
 use native.Mathlib.Omega.{arith}
-use Rattle.calls.proofs.Judged.{fitting-by, said, carried, refused}
+use Rattle.calls.proofs.Judged.{fitting-by, said}
 use Rattle.calls.proofs.judge.judge.Goals as goal
 
 pub overflow_add-result : goal.overflow_add-result
@@ -23,13 +23,3 @@ overflow_add-result-then-accepted-2 c =
     (said c.args.rooms c.args.broken c.args.p c.args.c c.args.phase c.args.more c.outcome_for-outcome.ensures c.accepted.ensures c.if-accepted.true) in
     let l = w.queries_limit in
     omega arith
-
-pub returns-then-accepted : goal.returns-then-accepted
-returns-then-accepted c =
-    carried c.args.rooms c.args.broken c.args.p c.args.c c.args.phase c.args.more c.outcome_for-outcome.ensures
-    (said c.args.rooms c.args.broken c.args.p c.args.c c.args.phase c.args.more c.outcome_for-outcome.ensures c.accepted.ensures c.if-accepted.true)
-
-pub returns : goal.returns
-returns c =
-    refused c.args.rooms c.args.broken c.args.p c.args.c c.args.phase c.args.more c.outcome_for-outcome.ensures
-    (said c.args.rooms c.args.broken c.args.p c.args.c c.args.phase c.args.more c.outcome_for-outcome.ensures c.accepted.ensures c.if-accepted.false)

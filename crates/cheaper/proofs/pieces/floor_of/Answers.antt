@@ -8,10 +8,10 @@ use Rattle.cheaper.proofs.pieces.floor_of.Goals as goal
 
 pub loop-t-init : goal.loop-t-init
 unfolding sum_to
-loop-t-init c = (omega arith, refl, omega arith)
+loop-t-init c = (refl, omega arith)
 
 pub loop-t-preserved : goal.loop-t-preserved
 unfolding sum_to
 loop-t-preserved c =
     let l = c.loop-t in
-    (omega arith, rw add-one (ap₂ (λ (x y : ℕ). x + y) l.invariant.1 (c.less_one-sum.ensures ∙ ap (λ (x : ℕ). x - 1) c.distinct_of.ensures.0)), omega arith)
+    (rw add-one (ap₂ (λ (x y : ℕ). x + y) l.invariant.0 (c.saturating_sub-sum.ensures ∙ ap (λ (x : ℕ). x - 1) c.distinct_of.ensures.0)), omega arith)

@@ -30,34 +30,31 @@ chose f n x y g ys a b r ao ap' bo bp e h = go (ltb b.price a.price) e (ap₂ lt
 pub loop-i-init : goal.loop-i-init
 loop-i-init c =
     let a = c.args in
-    let f : List ℕ → ℕ = total (λ x y. get_or a.between (x * 8 + y) 0) in
-    let e = first-is a.n (factorial-pos a.n) in (
-      omega arith,
-      omega arith,
-      (given a.n, c.tried_at-best.ensures.0 ∙ ap (λ (o : List ℕ). o ++ replicate (8 - a.n) 0) e, c.tried_at-best.ensures.1 ∙ ap f e, refl),
-    )
+    let f : List ℕ → ℕ = total (λ x y. get_or a.between.now (x * 8 + y) 0) in
+    let e = first-is a.n (factorial-pos a.n) in
+    (given a.n, c.tried_at-best.ensures.0 ∙ ap (λ (o : List ℕ). o ++ replicate (8 - a.n) 0) e, c.tried_at-best.ensures.1 ∙ ap f e, refl)
 
 pub loop-i-preserved : goal.loop-i-preserved
 loop-i-preserved c =
     let l = c.loop-i in
     let a = c.args in
-    let f : List ℕ → ℕ = total (λ x y. get_or a.between (x * 8 + y) 0) in
-    let d = l.invariant.2 in
+    let f : List ℕ → ℕ = total (λ x y. get_or a.between.now (x * 8 + y) 0) in
+    let d = l.invariant in
     let y = order_at a.n (given a.n) l.i in
-    let g = sought a.between a.n a.turns in
-    let r = chose f a.n d.0 y g (drop (suc l.i) (take a.turns (orders a.n))) l.best c.tried_at-next.result c.better-best.result d.1 d.2
-    c.tried_at-next.ensures.0 c.tried_at-next.ensures.1 c.better-best.ensures
-    (ap (cheapest f d.0) (sym (left-begins a.n a.turns l.i c.loop-i-test.true c.requires.2)) ∙ d.3) in
-    (omega arith, omega arith, (r.0, r.1, r.2, ap (λ (k : ℕ). cheapest f r.0 (drop k (take a.turns (orders a.n)))) (add-one l.i) ∙ r.3))
+    let g = sought a.between.now a.n a.turns in
+    let r = chose f a.n d.0 y g (drop (suc l.i) (take a.turns (orders a.n))) l.best c.tried_at.result c.better-best.result d.1 d.2
+    c.tried_at.ensures.0 c.tried_at.ensures.1 c.better-best.ensures
+    (ap (cheapest f d.0) (sym (left-begins a.n a.turns l.i (omega arith) c.requires.2)) ∙ d.3) in
+    (r.0, r.1, r.2, ap (λ (k : ℕ). cheapest f r.0 (drop k (take a.turns (orders a.n)))) (add-one l.i) ∙ r.3)
 
 pub returns : goal.returns
 unfolding cheapest
 returns c =
     let l = c.loop-i in
     let a = c.args in
-    let f : List ℕ → ℕ = total (λ x y. get_or a.between (x * 8 + y) 0) in
-    let d = l.invariant.2 in
+    let f : List ℕ → ℕ = total (λ x y. get_or a.between.now (x * 8 + y) 0) in
+    let d = l.invariant in
     let z : a.turns ≡ l.i = omega arith in
-    let e : d.0 ≡ sought a.between a.n a.turns = ap (cheapest f d.0)
+    let e : d.0 ≡ sought a.between.now a.n a.turns = ap (cheapest f d.0)
     (sym (ap (λ (k : ℕ). drop k (take a.turns (orders a.n))) (sym z) ∙ left-none a.n a.turns c.requires.2)) ∙ d.3 in
     (d.1 ∙ ap (λ (o : List ℕ). o ++ replicate (8 - a.n) 0) e, d.2 ∙ ap f e)

@@ -28,9 +28,9 @@ returns c =
     let asks : Conditions =
     record { phase = not (in_render s.progress.phase); many = false; range = false; absent = a.absent; kind = false; sum = prepared_over a.caps s.vertex a.w || a.over; room = false } in
     let k = found a.room s asks s.progress.phase cs _ _ _ _ _ c.list_rooms-rooms.ensures held (rw (ready.0, own.ensures) (sym (length-append ps (own_commands a.own)))) c.commands_only-more.ensures
-    (rw (c.in_render.ensures, ready.4) at c.judge-v.ensures) c.spot_of-place.ensures in
+    (rw (c.in_phase.ensures, c.in_render.ensures, ready.4) at c.judge-v.ensures) c.spot_of-place.ensures in
     let long = numbers-long s _ c.well_formed.1.1.1.0 in
-    let after = vertex-moved _ _ _ _ a.w _ _ _ _ _ s _ long c.pick-dirty.ensures c.pick-bound.ensures c.remembered-instances.ensures k.sure ready.2 ready.3 in (
+    let after = vertex-moved _ _ _ _ a.w _ _ _ _ _ s _ long c.taken-dirty.ensures c.taken-bound.ensures c.remembered-instances.ensures k.sure ready.2 ready.3 in (
       (k.said, next a.room s asks s.progress.phase cs k (with_vertex (prepared_state a.caps s.vertex a.w) s) _ after),
       laid a.room s asks s.progress.phase cs _ _ _ k.here k.many (λ h i l. refl),
       λ i h.

@@ -1,10 +1,6 @@
-use Rattle.std.proofs.Common.{◌-◌}
 use Rattle.list_walks.proofs.Mapped.{Copied}
 use Rattle.joining.specs.Plan.{moved_record}
 use Rattle.joining.proofs.join.copy_moved.Given as goal
 
 abbrev pub invariant-loop-i : goal.invariant-loop-i
-invariant-loop-i l = Copied (moved_record l.plan) l.src l.initial.dst l.at l.n l.dst l.i
-
-abbrev pub decreases-loop-i : goal.decreases-loop-i
-decreases-loop-i l = l.n - l.i
+invariant-loop-i l = Copied (moved_record l.plan) l.src l.initial.dst l.plan.from.commands l.plan.copied.commands l.dst l.i

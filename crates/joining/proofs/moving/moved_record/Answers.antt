@@ -4,4 +4,4 @@ use Rattle.joining.proofs.moving.moved_record.Goals as goal
 
 -- src/moving.rt:64:1
 pub returns : goal.returns
-returns c = ap record_of c.moved_command-command.ensures
+returns c = ap record_of c.moved_command.ensures

@@ -1,5 +1,5 @@
 -- The survey so far is that of the records passed, and no more draws than places.
-use Rattle.std.proofs.Common.{◌-◌, ◌≤◌}
+use Rattle.std.proofs.Common.{◌≤◌}
 use Rattle.list_walks.proofs.Folded.{Folded}
 use Rattle.lists.specs.Survey.{survey_record}
 use Rattle.lists.proofs.Floats.{PartF32}
@@ -12,6 +12,3 @@ invariant-loop-i l =
       floats : PartF32 l.list l.from l.i;
       low : l.a.draws ≤ l.i;
     }
-
-abbrev pub decreases-loop-i : goal.decreases-loop-i
-decreases-loop-i l = l.to - l.i

@@ -29,6 +29,6 @@ returns-else-is_default c =
           rw (sym e ∙ c.if-is_default.false)
           (ap₂ (λ (x y : ℕ). x + y)
           (c.count.ensures ∙ ap ones q ∙ sym (attach-count a.d (places-few a.d _ c.well_formed.0) caps a.d.sample_count))
-          (c.one_if.ensures.0 ∙ ap digit_of c.has_depth-depth.ensures ∙ sym (attach-one t))
+          (c.one_if.ensures.0 ∙ ap digit_of c.is_some.ensures ∙ sym (attach-one t))
           ∙ sym (length-append (attach_colors caps a.d.sample_count 0 ps) (attach_depth t))),
     )

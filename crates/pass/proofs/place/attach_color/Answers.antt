@@ -11,7 +11,7 @@ returns-then-resolves_in_place c =
     λ h.
     let a = c.args in
     let t = sym c.resolves_in_place.ensures ∙ c.if-resolves_in_place.true in
-    rw (t, c.view_or.ensures, c.color_point-attachment.ensures, lt-ltb (GL_COLOR_ATTACHMENT0 + a.i) (2 ^ 32) (omega arith))
+    rw (t, c.unwrap_or.ensures, c.color_point-attachment.ensures, lt-ltb (GL_COLOR_ATTACHMENT0 + a.i) (2 ^ 32) (omega arith))
 
 pub returns-else-resolves_in_place : goal.returns-else-resolves_in_place
 returns-else-resolves_in_place c =

@@ -2,4 +2,4 @@
 use Rattle.pass.proofs.render.begin_compute_pass.Goals as goal
 
 pub returns : goal.returns
-returns c = λ bytes. rw c.end_timestamp-stamp.ensures
+returns c = λ bytes. rw c.end_timestamp.ensures

@@ -3,7 +3,7 @@ use mathlib.Core.Path.{sym, ◌∙◌}
 use Rattle.pass.proofs.render.begin_render_pass.Goals as goal
 
 pub returns-then-default_first : goal.returns-then-default_first
-returns-then-default_first c = λ bytes. rw (sym c.default_first.ensures ∙ c.if-default_first.true, c.end_timestamp-stamp.ensures)
+returns-then-default_first c = λ bytes. rw (sym c.default_first.ensures ∙ c.if-default_first.true, c.end_timestamp-end_of_pass_timestamp.ensures)
 
 pub returns-else-default_first : goal.returns-else-default_first
-returns-else-default_first c = λ bytes. rw (sym c.default_first.ensures ∙ c.if-default_first.false, c.end_timestamp-stamp.ensures, c.lay_resolves-laid.ensures, c.invalidations.ensures)
+returns-else-default_first c = λ bytes. rw (sym c.default_first.ensures ∙ c.if-default_first.false, c.end_timestamp-end_of_pass_timestamp.ensures, c.lay_resolves-laid.ensures, c.invalidations.ensures)

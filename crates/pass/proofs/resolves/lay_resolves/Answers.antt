@@ -1,4 +1,4 @@
--- `pass::resolves::lay_resolves` meets its contract. Invariant: the resolves of the first i places are laid over the old ones. Measure: the places left. Assumes nothing.
+-- `pass::resolves::lay_resolves` meets its contract. Invariant: the resolves of the first i places are laid over the old ones. Assumes nothing.
 use Prim.Native.Nat.{suc, ◌+◌}
 use mathlib.Core.Path.{◌≡◌, refl, ap}
 use mathlib.Core.Bool.{cond}
@@ -18,7 +18,7 @@ use Rattle.pass.proofs.resolves.lay_resolves.Goals as goal
 
 pub loop-i-init : goal.loop-i-init
 unfolding gather
-loop-i-init c = (omega arith, omega arith, refl)
+loop-i-init c = (omega arith, refl)
 
 pub loop-i-preserved : goal.loop-i-preserved
 loop-i-preserved c =
@@ -33,14 +33,14 @@ loop-i-preserved c =
     ≡ gather (resolves_at a.caps) resolve_at 0 (take i ps) ++ cond (is_resolved a.caps i (place_at a.d i)) (resolve_desc i (place_at a.d i) ∷ []) [] =
     rw (zero-add i) at (gather-next (resolves_at a.caps) resolve_at no_place (λ k. refl) i 0 ps) in
     let xs = gather (resolves_at a.caps) resolve_at 0 (take i ps) in
-    let e : l.r.count ≡ length xs = ap (λ (x : Resolves). x.count) l.invariant.2 in
-    let q : c.append_resolve-r.result.count ≡ (append_if (is_resolved a.caps i (place_at a.d i)) (resolve_desc i (place_at a.d i)) l.r).count =
-    rw (c.append_resolve-r.ensures, c.place_at-p.ensures) in
-    let m = append-more (is_resolved a.caps i (place_at a.d i)) (resolve_desc i (place_at a.d i)) l.r in (
-      omega arith,
+    let e : l.r.count ≡ length xs = ap (λ (x : Resolves). x.count) l.invariant.1 in
+    let here = is_resolved a.caps i (place_at a.d i) in
+    let desc = resolve_desc i (place_at a.d i) in
+    let by : c.append_resolve-r.result ≡ append_if here desc l.r = c.append_resolve-r.ensures here desc (rw (c.resolve_of.ensures, c.place_at.ensures)) in
+    let q = ap (λ (x : Resolves). x.count) by in
+    let m = append-more here desc l.r in (
       omega (arith, q, m),
-      rw (p, g, c.append_resolve-r.ensures, c.place_at-p.ensures, l.invariant.2)
-          (lay-next (is_resolved a.caps i (place_at a.d i)) (resolve_desc i (place_at a.d i)) xs old (omega (arith, e, n))),
+      rw (p, g, by, l.invariant.1) (lay-next here desc xs old (omega (arith, e, n))),
     )
 
 pub returns : goal.returns
@@ -50,4 +50,4 @@ returns c =
     let ps = places_of a.d in
     let e : l.i ≡ 8 = omega arith in
     let t : take 8 ps ≡ ps = take_all 8 ps (places-few a.d _ c.well_formed.1.0) in
-    rw (e, t, ← resolve-gather a.caps 0 ps) at l.invariant.2
+    rw (e, t, ← resolve-gather a.caps 0 ps) at l.invariant.1

@@ -1,5 +1,5 @@
--- `pass::resolves::lay_resolves` meets its contract. Invariant: the resolves of the first i places are laid over the old ones. Measure: the places left. Assumes nothing.
-use Prim.Native.Nat.{◌-◌, ◌≤◌}
+-- `pass::resolves::lay_resolves` meets its contract. Invariant: the resolves of the first i places are laid over the old ones. Assumes nothing.
+use Prim.Native.Nat.{◌≤◌}
 use mathlib.Core.Path.{◌≡◌}
 use lib.ListN.{take}
 use Rattle.pass.specs.Render.{places_of}
@@ -9,7 +9,4 @@ use Rattle.pass.proofs.resolves.lay_resolves.Given as goal
 
 abbrev pub invariant-loop-i : goal.invariant-loop-i
 invariant-loop-i l =
-    (l.i ≤ 8) × (l.r.count ≤ l.i) × (l.r ≡ laid_over (gather (resolves_at l.caps) resolve_at 0 (take l.i (places_of l.d))) l.initial.r.at)
-
-abbrev pub decreases-loop-i : goal.decreases-loop-i
-decreases-loop-i l = 8 - l.i
+    (l.r.count ≤ l.i) × (l.r ≡ laid_over (gather (resolves_at l.caps) resolve_at 0 (take l.i (places_of l.d))) l.initial.r.at)

@@ -6,11 +6,8 @@ use Rattle.pass_calls.proofs.Begun.{begun-done}
 use Rattle.pass_calls.proofs.Labels.{label-fits}
 use Rattle.pass_calls.proofs.begins.begin_compute_pass.Goals as goal
 
-pub write_compute_label-requires : goal.write_compute_label-requires
-write_compute_label-requires c = let a = c.args in label-fits _ _ _ a.has_label a.label.now a.label_count _ _ _ (c.plan_begin_compute-plan.ensures.0 a.label.now refl).2
-
-pub record_compute-requires : goal.record_compute-requires
-record_compute-requires c = ((c.plan_begin_compute-plan.ensures.0 c.args.label.now refl).1.fits, c.plan_begin_compute-plan.ensures.1)
+pub copy_label-requires : goal.copy_label-requires
+copy_label-requires c = let a = c.args in label-fits _ _ _ a.has_label a.label.now a.label_count _ _ _ (c.plan_begin_compute-plan.ensures.0 a.label.now refl).2
 
 pub returns : goal.returns
 returns c =
@@ -18,4 +15,4 @@ returns c =
     let p = c.plan_begin_compute-plan.result in
     begun-done a.caps a.s (begin_compute_pass a.t (label_of a.has_label a.label.now a.label_count) (record { run = a.set.now; count = a.set_count })) (λ x. refl) refl
     _ _ _ _ _ p.outcome (compute_next p a.s) p.batch.at p.batch.n (compute_at p.batch) p.put p.size (λ i. get_or a.label.now i 0)
-    (c.plan_begin_compute-plan.ensures.0 a.label.now refl) c.compute_answer.ensures c.record_compute.ensures c.write_compute_label.ensures
+    (c.plan_begin_compute-plan.ensures.0 a.label.now refl) c.compute_answer.ensures c.«record».ensures c.copy_label.ensures

@@ -26,7 +26,7 @@ returns c =
     let k = found a.room s asks Open cs _ _ _ _ _ c.list_rooms-rooms.ensures c.broken_limits-broken.ensures count.ensures c.commands_only-more.ensures
     (rw (c.in_phase-c.ensures, c.ends_in.ensures) at c.judge-v.ensures) c.spot_of-place.ensures in
     let after : State = with_vertex a.vertex (with_fixed a.fixed (with_pass a.pass s)) in
-    let left = end_moved _ _ a.vertex a.fixed a.pass s _ _ _ _ c.taken_vertex-vertex.ensures c.taken_fixed-fixed.ensures c.taken_pass-pass.ensures k.sure in (
+    let left = end_moved _ _ a.vertex a.fixed a.pass s _ _ _ _ c.taken-vertex.ensures c.taken-fixed.ensures c.taken-pass.ensures k.sure in (
       (k.said, next a.room s asks Open cs k after _ left),
       laid a.room s asks Open cs _ _ _ k.here k.many (λ h i l. refl),
       λ i h.

@@ -6,4 +6,4 @@ pub returns : goal.returns
 returns c =
     let a = c.args in
     marked a.room a.bytes_room a.s a.c a.phase a.n a.size a.pass _ _ _ c.judge-v.result.ok c.byte_rooms-rooms.ensures c.broken_limits-broken.ensures c.judge-v.ensures
-    c.spot_of-place.ensures c.spot_of-mark.ensures c.taken_pass-pass.ensures
+    c.spot_of-place.ensures c.spot_of-mark.ensures c.taken-pass.ensures

@@ -14,4 +14,4 @@ returns c =
     let a = c.args in
     let l = attributes_of a.v in
     let k = subst (λ (n : ℕ). a.k < n) (length-map l unset_attribute) h in
-    rw c.attribute_in-a.ensures (sym (map_at unset_attribute l a.k start_attribute d k))
+    rw (c.attribute_in-a.ensures, c.counted.ensures) (sym (map_at unset_attribute l a.k start_attribute d k))

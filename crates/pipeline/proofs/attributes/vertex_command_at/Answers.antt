@@ -14,7 +14,7 @@ returns-then-caps c =
     let t = c.if-caps.true in
     let l = attributes_in a.p in
     let k = subst (λ (n : ℕ). a.k < n) (length-map l (set_attribute a.p)) (rw t at h) in
-    rw (t, c.set_attribute.ensures, c.desc_in-d.ensures, c.attribute_in-a.ensures) (sym (map_at (set_attribute a.p) l a.k start_attribute d k))
+    rw (t, c.set_attribute.ensures, c.attribute_in-a.ensures, c.counted.ensures) (sym (map_at (set_attribute a.p) l a.k start_attribute d k))
 
 pub returns-else-caps : goal.returns-else-caps
 returns-else-caps c = λ h d. let t = c.if-caps.false in rw t (c.unset_command_at.ensures (rw t at h) d)

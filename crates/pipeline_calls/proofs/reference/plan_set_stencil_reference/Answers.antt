@@ -28,5 +28,5 @@ returns c =
     let v = c.judge-v.result in
     let k = found a.room s asks s.progress.phase cs _ _ _ _ _ c.list_rooms-rooms.ensures c.broken_limits-broken.ensures many c.commands_only-more.ensures
     (rw (c.in_phase-c.ensures, c.in_render.ensures) at c.judge-v.ensures) c.spot_of-place.ensures in
-    right a.room s asks cs k (with_fixed fixed s) _ (fixed-next v.ok fixed s v.progress (rw (c.with_stencil-new.ensures, stencil) at c.taken_fixed-fixed.ensures)) same _
+    right a.room s asks cs k (with_fixed fixed s) _ (fixed-next v.ok fixed s v.progress (rw (c.with_stencil-new.ensures, stencil) at c.taken-fixed.ensures)) same _
     (λ i h. (h, no_more same many l.1))

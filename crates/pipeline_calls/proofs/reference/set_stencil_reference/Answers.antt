@@ -9,4 +9,4 @@ returns c =
     let a = c.args in
     let p = c.plan_set_stencil_reference-plan.result in
     done a.caps a.s (set_stencil_reference a.reference) (λ x. refl) refl refl _ _ _ p.outcome (sides_next p a.s) p.batch.at p.batch.n (sides_at p.batch) (SidesAllowed p.batch)
-    c.plan_set_stencil_reference-plan.ensures c.sides_answer.ensures c.record_sides.ensures
+    c.plan_set_stencil_reference-plan.ensures c.sides_answer.ensures c.«record».ensures

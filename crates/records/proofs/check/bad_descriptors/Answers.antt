@@ -1,33 +1,10 @@
--- `records::check::bad_descriptors` meets its contract. Invariant: `bad` says whether a counted descriptor from `left` on is bad. Measure: `left`. Assumes nothing.
-use mathlib.Core.Path.{◌≡◌}
-use native.Mathlib.Omega.{arith}
-use lib.ListN.{length}
-use Rattle.records.specs.Check.{some?}
-use Rattle.records.specs.Start.{start_immediate}
-use Rattle.records.proofs.Scanning.{none-behind, one-counted}
+-- `records::check::bad_descriptors` meets its contract. Assumes nothing.
+use Rattle.std.proofs.Common.{List, ◌∙◌, ap, sym, take}
+use Rattle.std.specs.List.{list_any}
+use Rattle.records.specs.declared.command.ImmediateDesc.{ImmediateDesc}
+use Rattle.records.specs.Any.{some-any}
+use Rattle.records.specs.Check.{bad_descriptor}
 use Rattle.records.proofs.check.bad_descriptors.Goals as goal
 
-pub loop-left-init : goal.loop-left-init
-unfolding some?
-loop-left-init c =
-    let e : length c.args.descs ≡ 192 = c.well_formed.0.1.0.1 in
-    (omega arith, rw (c.within-left.ensures, none-behind c.args.descs c.args.count 192 e))
-
-pub loop-left-preserved : goal.loop-left-preserved
-unfolding some?
-loop-left-preserved c =
-    let l = c.loop-left in
-    let e : length c.args.descs ≡ 192 = c.well_formed.0.1.0.1 in (
-      omega arith,
-      rw (
-        one-counted c.args.descs c.args.count 192 l.left start_immediate e c.loop-left-test.true l.invariant.0,
-        c.bad_descriptor-bad.ensures,
-        l.invariant.1,
-      ),
-    )
-
 pub returns : goal.returns
-returns c =
-    let l = c.loop-left in
-    let e : l.left ≡ 0 = omega arith in
-    rw e at l.invariant.1
+returns c = c.any_bad.ensures ∙ ap (λ (l : List ImmediateDesc). list_any bad_descriptor l) c.counted.ensures ∙ sym (some-any bad_descriptor (take c.args.count c.args.descs))

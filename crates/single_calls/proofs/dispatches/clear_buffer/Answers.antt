@@ -6,4 +6,4 @@ use Rattle.single_calls.proofs.dispatches.clear_buffer.Goals as goal
 pub returns : goal.returns
 returns c =
     let a = c.args in
-    one-done a.caps a.s (clear_buffer a.buffer a.range) (λ x. refl) refl refl _ _ _ _ c.plan_clear_buffer-plan.ensures (c.one_answer.ensures, c.record_one.ensures)
+    one-done a.caps a.s (clear_buffer a.buffer a.range) (λ x. refl) refl refl _ _ _ _ c.plan_clear_buffer-plan.ensures (c.one_answer.ensures, c.«record».ensures)

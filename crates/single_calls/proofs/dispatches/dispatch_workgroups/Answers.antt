@@ -6,4 +6,4 @@ use Rattle.single_calls.proofs.dispatches.dispatch_workgroups.Goals as goal
 pub returns : goal.returns
 returns c =
     let a = c.args in
-    one-done a.caps a.s (dispatch_workgroups a.x a.y a.z) (λ x. refl) refl refl _ _ _ _ c.plan_dispatch_workgroups-plan.ensures (c.one_answer.ensures, c.record_one.ensures)
+    one-done a.caps a.s (dispatch_workgroups a.x a.y a.z) (λ x. refl) refl refl _ _ _ _ c.plan_dispatch_workgroups-plan.ensures (c.one_answer.ensures, c.«record».ensures)

@@ -6,4 +6,4 @@ use Rattle.single_calls.proofs.settings.set_scissor_rect.Goals as goal
 pub returns : goal.returns
 returns c =
     let a = c.args in
-    one-done a.caps a.s (set_scissor_rect a.rect) (λ x. refl) refl refl _ _ _ _ c.plan_set_scissor_rect-plan.ensures (c.one_answer.ensures, c.record_one.ensures)
+    one-done a.caps a.s (set_scissor_rect a.rect) (λ x. refl) refl refl _ _ _ _ c.plan_set_scissor_rect-plan.ensures (c.one_answer.ensures, c.«record».ensures)

@@ -1,14 +1,15 @@
 -- `slots::prepare::prepare` meets its contract: with layouts by the mask, without by the sweep. Assumes nothing.
 use Prim.Native.Nat.{◌^◌, ◌<◌}
-use mathlib.Core.Path.{◌≡◌}
+use mathlib.Core.Path.{◌≡◌, ◌∙◌, sym}
 use native.Mathlib.Omega.{arith}
 use lib.Bits.{bit_and}
 use lib.Count.{ones}
 use lib.ListN.{length, length-map}
 use Rattle.mask.specs.Mask.{places}
 use Rattle.mask.specs.Laws.{ones-places, and_lt}
+use Rattle.records.specs.Any.{some-any}
 use Rattle.slots.specs.Vertex.{attributes_of}
-use Rattle.slots.specs.Prepare.{rebound, sent_of, buffer_command, buffer_commands, attribute_command, attribute_commands}
+use Rattle.slots.specs.Prepare.{rebound, slot_over, sent_of, buffer_command, buffer_commands, attribute_command, attribute_commands}
 use Rattle.slots.specs.Sweep.{swept-count, swept-slots, swept-over}
 use Rattle.slots.proofs.prepare.prepare.Goals as goal
 
@@ -26,7 +27,7 @@ returns-then-caps c =
       rw (t, k),
       rw t (rw k at c.without.ensures),
       rw (t, k),
-      rw t (rw k at c.slots_over.ensures),
+      rw t (rw k at c.slots_over.ensures ∙ sym (some-any (slot_over a.v a.w) (places m))),
     )
 
 pub returns-else-caps : goal.returns-else-caps

@@ -1,44 +1,36 @@
--- `slots::prepare::sweep_attributes` meets its contract. Invariant: the sweep is that of the counted attributes from `left` on. Measure: `left`. Assumes nothing.
-use Prim.Native.Nat.{◌-◌}
-use mathlib.Core.Path.{◌≡◌}
-use native.Mathlib.Omega.{arith}
-use lib.ListN.{get_or}
+-- `slots::prepare::sweep_attributes` meets its contract. Assumes nothing.
+use Rattle.std.proofs.Common.{◌≡◌, ◌-◌, ◌≤◌, ◌∙◌, List, length, length-take, get_or, ap, arith}
+use lib.ListN.{drop_of_length-le}
 use Rattle.records.specs.Start.{start_attribute}
+use Rattle.records.specs.declared.command.AttributeDesc.{AttributeDesc}
 use Rattle.records.proofs.Long.{attributes-long}
-use Rattle.records.proofs.Scanning.{none-behind, one-counted}
+use Rattle.records.proofs.Scanning.{one-behind}
 use Rattle.slots.specs.Sweep.{sweep_one, swept, sweep-more}
 use Rattle.slots.proofs.prepare.sweep_attributes.Goals as goal
 
-pub loop-left-init : goal.loop-left-init
-unfolding swept
-loop-left-init c =
-    let v = c.args.v in (
-      omega arith,
-      omega arith,
-      rw (c.within-left.ensures, none-behind v.attributes v.attribute_count 16 (attributes-long v _ c.well_formed.0)),
-    )
-
-pub loop-left-preserved : goal.loop-left-preserved
-unfolding swept
-loop-left-preserved c =
+pub sweep_attribute-sweep-requires : goal.sweep_attribute-sweep-requires
+sweep_attribute-sweep-requires c =
     let v = c.args.v in
-    let l = c.loop-left in
-    let r = c.args.m in
-    let n = v.attribute_count in
     let e = attributes-long v _ c.well_formed.0 in
-    let a = get_or v.attributes (l.left - 1) start_attribute in
-    let q : c.sweep_attribute-sweep.result.count ≡ (sweep_one r v c.args.w l.sweep a).count = rw c.sweep_attribute-sweep.ensures in (
-      omega arith,
-      omega (arith, q, sweep-more r v c.args.w l.sweep a),
-      rw (
-        one-counted v.attributes n 16 l.left start_attribute e c.loop-left-test.true l.invariant.0,
-        c.sweep_attribute-sweep.ensures,
-        l.invariant.2,
-      ),
-    )
+    let k = ap (λ (l : List AttributeDesc). length l) c.counted-attributes.ensures ∙ length-take v.attribute_count v.attributes in
+    omega (arith, e, k)
 
-pub returns : goal.returns
-returns c =
-    let l = c.loop-left in
-    let e : l.left ≡ 0 = omega arith in
-    rw e at l.invariant.2
+pub loop-i-init : goal.loop-i-init
+unfolding swept
+loop-i-init c =
+    let l = c.counted-attributes.result.now in
+    (omega arith, rw (drop_of_length-le l {i = length l} (omega arith)))
+
+pub loop-i-preserved : goal.loop-i-preserved
+unfolding swept
+loop-i-preserved c =
+    let v = c.args.v in
+    let s = c.loop-i.sweep in
+    let i = c.loop-i.i in
+    let l = c.counted-attributes.result.now in
+    let a = get_or l (i - 1) start_attribute in
+    let n : i ≤ length l = omega arith in
+    let q : c.sweep_attribute-sweep.result.count ≡ (sweep_one c.args.m v c.args.w s a).count = rw c.sweep_attribute-sweep.ensures in (
+      omega (arith, q, sweep-more c.args.m v c.args.w s a),
+      rw (one-behind l i start_attribute (omega arith) n, c.sweep_attribute-sweep.ensures, c.loop-i.invariant.1),
+    )

@@ -8,7 +8,7 @@ use Rattle.state_text.proofs.state.state_length.Goals as goal
 
 pub loop-k-init : goal.loop-k-init
 unfolding lines_to
-loop-k-init c = (omega arith, omega arith, refl)
+loop-k-init c = (omega arith, refl)
 
 pub loop-k-preserved : goal.loop-k-preserved
 loop-k-preserved c =
@@ -17,10 +17,10 @@ loop-k-preserved c =
     let r = c.line_length-total.ensures in
     let e : l.k + 1 ≡ suc l.k = omega arith in
     let n = next-long l.k (state_line a.s) in
-    (omega arith, omega (arith, r.1, l.invariant.1), rw e (omega (arith, n, l.invariant.2, r.0)))
+    (omega (arith, r.1, l.invariant.0), rw e (omega (arith, n, l.invariant.1, r.0)))
 
 pub returns : goal.returns
 returns c =
     let l = c.loop-k in
     let e : l.k ≡ 375 = omega arith in
-    rw e at l.invariant.2
+    rw e at l.invariant.1

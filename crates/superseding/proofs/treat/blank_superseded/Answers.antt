@@ -6,7 +6,7 @@ pub loop-i-init : goal.loop-i-init
 loop-i-init c = back_none _ _ _ _ _
 
 pub loop-i-preserved : goal.loop-i-preserved
-loop-i-preserved c = back-more _ _ _ _ _ _ _ _ _ _ _ c.loop-i.invariant c.loop-i-test.true c.requires c.look_back-a.ensures c.blanked-c.ensures
+loop-i-preserved c = back-more _ _ _ _ _ _ _ _ _ _ _ c.loop-i.invariant c.loop-i-test.true c.requires c.look_back-a.ensures c.blanked.ensures
 
 pub returns : goal.returns
 returns c = back-end _ _ _ _ _ _ _ _ c.loop-i.invariant c.loop-i-test.false

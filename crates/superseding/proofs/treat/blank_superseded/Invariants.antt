@@ -5,6 +5,3 @@ use Rattle.superseding.proofs.treat.blank_superseded.Given as goal
 
 abbrev pub invariant-loop-i : goal.invariant-loop-i
 invariant-loop-i l = Back blanked_by look_back l.initial.a l.initial.list l.n l.a l.list l.i
-
-abbrev pub decreases-loop-i : goal.decreases-loop-i
-decreases-loop-i l = l.i

@@ -1,17 +1,17 @@
 -- The statements, one after the other, do what the contract says.
-use Rattle.std.proofs.Common.{ap, arith, length}
+use Rattle.std.proofs.Common.{arith, refl}
 use Rattle.superseding.proofs.Treating.{treats, may}
 use Rattle.superseding.proofs.treat.take_out_superseded.Goals as goal
 
 pub blank_superseded-first-requires : goal.blank_superseded-first-requires
 blank_superseded-first-requires c =
-    let room = may c.args.list.now c.args.used _ c.survey_lent-s.ensures.0 _ c.upto-n.ensures in
-    omega (arith, room, ap length c.survey_lent-s.ensures.1)
+    let room = may c.args.list.now c.args.used _ c.survey-s.ensures.survey _ c.upto-n.ensures in
+    omega (arith, room)
 
 pub retain-left-requires : goal.retain-left-requires
 retain-left-requires c =
-    let room = may c.args.list.now c.args.used _ c.survey_lent-s.ensures.0 _ c.upto-n.ensures in
-    omega (arith, room, ap length c.survey_lent-s.ensures.1)
+    let room = may c.args.list.now c.args.used _ c.survey-s.ensures.survey _ c.upto-n.ensures in
+    omega (arith, room)
 
 pub returns : goal.returns
-returns c = treats _ _ _ _ c.survey_lent-s.ensures _ c.upto-n.ensures _ c.nothing_seen-none.ensures _ _ c.blank_superseded-first.ensures _ _ c.retain-left.ensures _ c.answer.ensures
+returns c = treats _ _ _ _ (c.survey-s.ensures.survey, refl) _ c.upto-n.ensures _ c.nothing_seen-none.ensures _ _ c.blank_superseded-first.ensures _ _ c.retain-left.ensures _ c.answer.ensures

@@ -1,26 +1,20 @@
 -- `text::put::put_hex` meets its contract: what is left to put are the last k digits of `rest`. Assumes nothing.
 use native.Mathlib.Omega.{arith}
-use Rattle.text.proofs.Puts.{going_start, going-put, going_end, going-room}
+use Rattle.text.proofs.Puts.{going-put, going_end, going-room}
 use Rattle.text.proofs.Digits.{hex-step, hex-none, hex-long}
 use Rattle.text.proofs.put.put_hex.Goals as goal
-
-pub loop-k-init : goal.loop-k-init
-loop-k-init c = going_start _ _ _
 
 pub put-i-requires : goal.put-i-requires
 put-i-requires c =
     let l = c.loop-k in
-    going-room 1 l.invariant c.requires.1 (omega (arith, c.requires.0, c.loop-k-test.true, hex-long 8 c.args.n, hex-long l.k l.rest))
+    going-room 1 l.invariant c.requires.1 (omega (arith, c.requires.0, hex-long 8 c.args.n, hex-long l._k l.rest))
 
 pub loop-k-preserved : goal.loop-k-preserved
 loop-k-preserved c =
     let l = c.loop-k in
     let p = c.put-i in
-    going-put (rw (hex-step l.k l.rest (omega arith), ← c.hex_digit.ensures) at l.invariant) p.ensures p.auto.line
-
-pub shape_of-line : goal.shape_of-line
-shape_of-line c = c.loop-k.invariant.long
+    going-put (rw (hex-step l._k l.rest (omega arith), ← c.hex_digit.ensures) at l.invariant) p.ensures p.auto.line
 
 pub returns : goal.returns
 returns c =
-    going_end (rw (hex-none c.loop-k.k c.loop-k.rest (omega arith)) at c.loop-k.invariant)
+    going_end (rw (hex-none c.loop-k._k c.loop-k.rest (omega arith)) at c.loop-k.invariant)

@@ -4,7 +4,4 @@ use Rattle.text.proofs.Puts.{Going}
 use Rattle.text.proofs.put.put_hex.Given as goal
 
 abbrev pub invariant-loop-k : goal.invariant-loop-k
-invariant-loop-k l = Going (hex l.n) (hex_in l.k l.rest) l.initial.line l.at l.line l.i
-
-abbrev pub decreases-loop-k : goal.decreases-loop-k
-decreases-loop-k l = l.k
+invariant-loop-k l = Going (hex l.n) (hex_in l._k l.rest) l.initial.line l.at l.line l.i

@@ -10,4 +10,4 @@ returns c = put_then c.put_field-i.ensures c.put.ensures
 pub put-requires : goal.put-requires
 put-requires c =
     let p = c.put_field-i in
-    put-room 1 p.ensures p.auto.line (omega (arith, c.requires.0, field-short c.args.item.is)) c.requires.1
+    put-room 1 p.ensures p.auto.line (omega (arith, c.requires.0, field-short c.args.field)) c.requires.1

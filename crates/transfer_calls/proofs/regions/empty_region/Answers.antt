@@ -5,21 +5,21 @@ use Rattle.records.specs.Check.{some?}
 use Rattle.transfer_calls.proofs.Triples.{none-behind, one-behind, copies}
 use Rattle.transfer_calls.proofs.regions.empty_region.Goals as goal
 
-pub loop-left-init : goal.loop-left-init
+pub loop-i-init : goal.loop-i-init
 unfolding some?
-loop-left-init c =
+loop-i-init c =
     let a = c.args in
-    (c.elements-left.ensures.0, rw (none-behind _ _ copies a.run.now a.count _ c.elements-left.ensures.1))
+    (c.elements-n.ensures.0, rw (none-behind _ _ copies a.run.now a.count _ c.elements-n.ensures.1))
 
-pub loop-left-preserved : goal.loop-left-preserved
+pub loop-i-preserved : goal.loop-i-preserved
 unfolding some?
-loop-left-preserved c =
+loop-i-preserved c =
     let a = c.args in
-    let l = c.loop-left in
-    (omega arith, rw (one-behind _ _ copies a.run.now a.count l.left c.loop-left-test.true l.invariant.0, c.region_at-c.ensures, l.invariant.1))
+    let l = c.loop-i in
+    (omega arith, rw (one-behind _ _ copies a.run.now a.count l.i c.loop-i-test.true l.invariant.0, c.region_at-c.ensures, l.invariant.1))
 
 pub returns : goal.returns
 returns c =
-    let l = c.loop-left in
-    let e : l.left ≡ 0 = omega arith in
+    let l = c.loop-i in
+    let e : l.i ≡ 0 = omega arith in
     rw e at l.invariant.1

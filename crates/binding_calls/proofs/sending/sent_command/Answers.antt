@@ -1,7 +1,0 @@
--- `binding_calls::sending::sent_command` meets its contract. Assumes nothing.
-use Rattle.records.specs.declared.command.Command.TheVariants.{PopDebugGroup}
-use Rattle.binding_calls.proofs.sending.sent_command.Goals as goal
-
-pub returns : goal.returns
-returns c =
-    c.immediate_command_at.ensures c.args.batch.put c.requires.2 c.requires.1 PopDebugGroup

@@ -1,9 +1,0 @@
--- `bindings::units::sampler_at` meets its contract. Assumes nothing.
-use mathlib.Core.Path.{sym, ◌∙◌}
-use Rattle.bindings.proofs.units.sampler_at.Goals as goal
-
-pub returns-then-test : goal.returns-then-test
-returns-then-test c = rw (sym c.test.ensures ∙ c.if-test.true, c.raw_sampler.ensures)
-
-pub returns-else-test : goal.returns-else-test
-returns-else-test c = rw (sym c.test.ensures ∙ c.if-test.false)

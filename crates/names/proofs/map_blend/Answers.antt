@@ -1,5 +1,0 @@
--- `names::map_blend` meets its contract: field by field, by the contracts of the maps that it calls. Assumes nothing.
-use Rattle.names.proofs.map_blend.Goals as goal
-
-pub returns : goal.returns
-returns c = cc

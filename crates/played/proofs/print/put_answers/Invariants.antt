@@ -1,9 +1,0 @@
--- Measure: the answers left.
-use Rattle.std.proofs.Common.{◌-◌, ◌≤◌, length}
-use Rattle.played.proofs.print.put_answers.Given as goal
-
-abbrev pub invariant-loop-i : goal.invariant-loop-i
-invariant-loop-i g l = l.n ≤ length l.answers
-
-abbrev pub decreases-loop-i : goal.decreases-loop-i
-decreases-loop-i g l = l.n - l.i

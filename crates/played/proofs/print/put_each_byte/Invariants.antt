@@ -1,9 +1,0 @@
--- Measure: the bytes left.
-use Rattle.std.proofs.Common.{◌-◌, ◌≤◌, length}
-use Rattle.played.proofs.print.put_each_byte.Given as goal
-
-abbrev pub invariant-loop-i : goal.invariant-loop-i
-invariant-loop-i g l = l.n ≤ length l.bytes
-
-abbrev pub decreases-loop-i : goal.decreases-loop-i
-decreases-loop-i g l = l.n - l.i

@@ -1,9 +1,0 @@
--- Between its two ends. Measure: the bytes left.
-use Rattle.std.proofs.Common.{◌-◌, ◌≤◌, length}
-use Rattle.session.proofs.line_at.Given as goal
-
-abbrev pub invariant-loop-i : goal.invariant-loop-i
-invariant-loop-i l = (l.begin ≤ l.i) × (l.i ≤ length l.text)
-
-abbrev pub decreases-loop-i : goal.decreases-loop-i
-decreases-loop-i l = length l.text - l.i

@@ -1,7 +1,0 @@
--- `state_text::fixed::primitive` meets its contract: it is always there. Assumes nothing.
-use mathlib.Core.Bool.{true}
-use Rattle.state_text.proofs.RowLaws.{shown-is}
-use Rattle.state_text.proofs.fixed.primitive.Goals as goal
-
-pub returns : goal.returns
-returns c = shown-is true c.four-shown.ensures
