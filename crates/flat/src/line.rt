@@ -161,11 +161,15 @@ impl<'a> Line<'a> {
         Ok(())
     }
 
-    pub fn take_u64(&mut self) -> Result<u64, Wrong> {
+    pub fn take_u64(&mut self) -> Result<u64, Wrong>
+        ensures { IfErr result (λ w. w.at ≤ length self.old.bytes.now) }
+    {
         self.take(u64::MAX)
     }
 
-    pub fn take_u32(&mut self) -> Result<u32, Wrong> {
+    pub fn take_u32(&mut self) -> Result<u32, Wrong>
+        ensures { IfErr result (λ w. w.at ≤ length self.old.bytes.now) }
+    {
         Ok(self.take(u32::MAX as u64)? as u32)
     }
 
@@ -177,7 +181,9 @@ impl<'a> Line<'a> {
         Ok(self.take(u8::MAX as u64)? as u8)
     }
 
-    pub fn take_bool(&mut self) -> Result<bool, Wrong> {
+    pub fn take_bool(&mut self) -> Result<bool, Wrong>
+        ensures { IfErr result (λ w. w.at ≤ length self.old.bytes.now) }
+    {
         Ok(self.take(1)? == 1)
     }
 

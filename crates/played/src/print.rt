@@ -1,5 +1,5 @@
 // Output by lines. A write that fails is passed over.
-ghost use Rattle.std.specs.Prelude.{ℕ, ◌<◌};
+ghost use Rattle.std.specs.Prelude.{ℕ, ◌<◌, ◌≡◌, true, false};
 
 use calls::batch::Batch;
 use records::command::Command;
@@ -37,7 +37,9 @@ impl<W: Write> Write for Printer<W> {
 }
 
 impl<W: Write> Printer<W> {
-    pub fn new(writer: W) -> Printer<W> {
+    pub fn new(writer: W) -> Printer<W>
+        ensures { result.divide ≡ false }
+    {
         Printer {
             writer,
             divide: false,
@@ -101,7 +103,9 @@ impl<W: Write> Printer<W> {
     }
 
     // What ends a list that is finished: its marker bytes and its queries. Another list is divided from it.
-    pub fn end_list(&mut self, bytes: &[u8], queries: &[u32]) {
+    pub fn end_list(&mut self, bytes: &[u8], queries: &[u32])
+        ensures { self.new.divide ≡ true }
+    {
         self.put_divider();
         self.put_bytes(bytes);
         self.put_queries(queries);
@@ -116,9 +120,11 @@ impl<W: Write> Printer<W> {
     }
 
     // The last line of a session: the next one begins with no divider.
-    pub fn end_session(&mut self) {
-        self.divide = false;
+    pub fn end_session(&mut self)
+        ensures { self.new.divide ≡ false }
+    {
         let _ = self.write_all(b"===\n");
+        self.divide = false;
     }
 
     // What is wrong with a line, counted from 1.
