@@ -10,10 +10,10 @@ use crate::answer::put_cheaper;
 use crate::line::take_question;
 use cheaper::search::cheaper_order;
 use flat::line::Wrong;
+use played::blocks::Blocks;
 use played::print::Printer;
 use sessions::lines::{Lines, MAX_TURNS, Text};
-use std::io;
-use std::io::{BufWriter, Write};
+use std::io::Write;
 
 // The answer to a line.
 fn put_answer<W: Write>(out: &mut Printer<W>, text: Text) -> Result<(), Wrong> {
@@ -28,11 +28,12 @@ fn put_answer<W: Write>(out: &mut Printer<W>, text: Text) -> Result<(), Wrong> {
 // eighteen numbers of ten, one blank between two. `line` holds 16,384.
 // The loop is that of `list_names` too: as one function it takes a closure over two lent values and
 // an error type.
-fn main(rt: HostRuntime) -> io::Result<()> {
+fn main(rt: HostRuntime) {
     let mut buffer = [0u8; 65536];
     let mut line = [0u8; 16384];
     let mut lines = Lines::new(rt.stdin(), &mut buffer, &mut line);
-    let mut out = Printer::new(BufWriter::with_capacity(rt.alloc(), 65536, rt.stdout())?);
+    let mut block = [0u8; 65536];
+    let mut out = Printer::new(Blocks::new(rt.stdout(), &mut block));
     for _ in 0..MAX_TURNS {
         let Some(text) = lines.next() else {
             break;
@@ -43,5 +44,4 @@ fn main(rt: HostRuntime) -> io::Result<()> {
         }
     }
     let _ = out.flush();
-    Ok(())
 }

@@ -9,19 +9,20 @@ mod shown;
 mod words;
 
 use crate::shown::show;
+use played::blocks::Blocks;
 use played::print::Printer;
 use sessions::lines::{Lines, MAX_TURNS};
-use std::io;
-use std::io::{BufWriter, Write};
+use std::io::Write;
 
 // No line that `script` prints and that is shown has more than 130 characters; `line` holds 512.
 // The loop is that of `cheaper_draws` too: as one function it takes a closure over two lent values
 // and an error type.
-fn main(rt: HostRuntime) -> io::Result<()> {
+fn main(rt: HostRuntime) {
     let mut buffer = [0u8; 65536];
     let mut line = [0u8; 512];
     let mut lines = Lines::new(rt.stdin(), &mut buffer, &mut line);
-    let mut out = Printer::new(BufWriter::with_capacity(rt.alloc(), 65536, rt.stdout())?);
+    let mut block = [0u8; 65536];
+    let mut out = Printer::new(Blocks::new(rt.stdout(), &mut block));
     for _ in 0..MAX_TURNS {
         let Some(text) = lines.next() else {
             break;
@@ -32,5 +33,4 @@ fn main(rt: HostRuntime) -> io::Result<()> {
         }
     }
     let _ = out.flush();
-    Ok(())
 }

@@ -15,6 +15,12 @@ const COMMAND_ROOM: usize = 384;
 
 const STATE_ROOM: usize = 65536;
 
+// The digit of a number below 16.
+fn hex_digit(n: u8) -> u8 {
+    let d = n % 16;
+    if d < 10 { b'0' + d } else { b'a' + (d - 10) }
+}
+
 // Where the lines go, and whether the line between two lists is due.
 #[derive(Drop)]
 pub struct Printer<W> {
@@ -78,17 +84,20 @@ impl<W: Write> Printer<W> {
         }
     }
 
+    // Not inlined: where a caller holds the state in parts, it is put together anew for each of its lines.
+    #[inline(never)]
     pub fn put_state(&mut self, s: State) {
         let mut lines = [0u8; STATE_ROOM];
         let wrote = write_state(&mut lines, 0, s);
         self.put_wrote(&lines, wrote);
     }
 
-    // The marker bytes of a list.
+    // The marker bytes of a list. Two digits by hand: a `write!` for each byte takes twice as long.
     pub fn put_bytes(&mut self, bytes: &[u8]) {
         let _ = write!(self, "bytes {}", bytes.len());
         for byte in bytes {
-            let _ = write!(self, " {byte:02x}");
+            let text = [b' ', hex_digit(byte / 16), hex_digit(byte % 16)];
+            let _ = self.write_all(&text);
         }
         let _ = self.write_all(b"\n");
     }

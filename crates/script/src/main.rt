@@ -6,12 +6,12 @@ mod run;
 
 use crate::run::Session;
 use flat::line::Line;
+use played::blocks::Blocks;
 use played::print::Printer;
 use sessions::header::take_header;
 use sessions::lines::{Lines, MAX_TURNS};
 use sessions::wrong::WrongLine;
-use std::io;
-use std::io::{BufWriter, Read, Write};
+use std::io::{Read, Write};
 
 // The next session, where there is one more: its calls, what ends it, and its last line.
 fn session<R: Read, W: Write>(
@@ -61,11 +61,12 @@ fn line_room() -> [u8; 524288] {
     [0; 524288]
 }
 
-fn main(rt: HostRuntime) -> io::Result<()> {
+fn main(rt: HostRuntime) {
     let mut buffer = [0u8; 65536];
     let mut line = line_room();
     let mut lines = Lines::new(rt.stdin(), &mut buffer, &mut line);
-    let mut out = Printer::new(BufWriter::with_capacity(rt.alloc(), 65536, rt.stdout())?);
+    let mut block = [0u8; 65536];
+    let mut out = Printer::new(Blocks::new(rt.stdout(), &mut block));
     let mut bytes = [0u8; 65536];
     let mut queries = [0u32; 1024];
     let mut answers = [0u8; 65536];
@@ -80,5 +81,4 @@ fn main(rt: HostRuntime) -> io::Result<()> {
         }
     }
     let _ = out.flush();
-    Ok(())
 }

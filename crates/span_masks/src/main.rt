@@ -8,14 +8,14 @@ mod answer;
 use crate::answer::{put_span, take_bounds};
 use flat::line::{Line, Wrong};
 use play::line::play;
+use played::blocks::Blocks;
 use played::print::Printer;
 use records::state::State;
 use sessions::header::{Header, take_header};
 use sessions::lines::{Lines, MAX_TURNS, Text};
 use sessions::wrong::WrongLine;
 use spans::rebound_span;
-use std::io;
-use std::io::{BufWriter, Read, Write, sink};
+use std::io::{Read, Write, sink};
 
 // How many calls a session may have: as many as `script` takes.
 const MAX_CALLS: usize = 65536;
@@ -27,8 +27,9 @@ struct Runs<'a> {
     queries: &'a mut [u32],
 }
 
-// The call of a line, whose commands nobody reads.
-fn call(runs: &mut Runs, header: &Header, text: Text, s: State) -> Result<State, Wrong> {
+// The call of a line, whose commands nobody reads. The state where it stands: as a part of an answer it
+// is copied for each `?`.
+fn call(runs: &mut Runs, header: &Header, text: Text, s: &mut State) -> Result<(), Wrong> {
     let mut line = text.whole()?;
     let bytes = header.bytes.min(runs.bytes.len());
     let queries = header.queries.min(runs.queries.len());
@@ -39,9 +40,10 @@ fn call(runs: &mut Runs, header: &Header, text: Text, s: State) -> Result<State,
         &mut runs.queries[..queries],
         &mut line,
         header.caps,
-        s,
+        *s,
     )?;
-    Ok(answer.state)
+    *s = answer.state;
+    Ok(())
 }
 
 // The state that the calls of a session leave.
@@ -54,7 +56,7 @@ fn run_calls<R: Read>(
     for _ in 0..header.calls {
         let text = lines.required();
         let number = text.number;
-        s = call(runs, header, text, s).map_err(|wrong| WrongLine { number, wrong })?;
+        call(runs, header, text, &mut s).map_err(|wrong| WrongLine { number, wrong })?;
     }
     Ok(s)
 }
@@ -92,11 +94,12 @@ fn line_room() -> [u8; 524288] {
     [0; 524288]
 }
 
-fn main(rt: HostRuntime) -> io::Result<()> {
+fn main(rt: HostRuntime) {
     let mut buffer = [0u8; 65536];
     let mut line = line_room();
     let mut lines = Lines::new(rt.stdin(), &mut buffer, &mut line);
-    let mut out = Printer::new(BufWriter::with_capacity(rt.alloc(), 65536, rt.stdout())?);
+    let mut block = [0u8; 65536];
+    let mut out = Printer::new(Blocks::new(rt.stdout(), &mut block));
     let mut bytes = [0u8; 65536];
     let mut queries = [0u32; 1024];
     let mut runs = Runs {
@@ -114,5 +117,4 @@ fn main(rt: HostRuntime) -> io::Result<()> {
         }
     }
     let _ = out.flush();
-    Ok(())
 }
