@@ -73,8 +73,8 @@ fn sources_alike(x: Option<Source>, y: Option<Source>) -> bool
     }
 }
 
-fn attribute_at(s: Settings, location: usize) -> Option<Attribute>
-    ensures { result ≡ attribute_in s location }
+fn attribute_at(s: &Settings, location: usize) -> Option<Attribute>
+    ensures { result ≡ attribute_in s.now location }
 {
     if location < MAX_VERTEX_ATTRIBUTES {
         return s.locations[location];
@@ -82,8 +82,8 @@ fn attribute_at(s: Settings, location: usize) -> Option<Attribute>
     None
 }
 
-fn buffer_at(s: Settings, slot: u32) -> Option<VertexBuffer>
-    ensures { result ≡ buffer_in s slot }
+fn buffer_at(s: &Settings, slot: u32) -> Option<VertexBuffer>
+    ensures { result ≡ buffer_in s.now slot }
 {
     let i = slot as usize;
     if i < MAX_VERTEX_BUFFERS {
@@ -121,8 +121,8 @@ fn own_source(raw: u32, desc: VertexBufferDesc, offset: u32) -> Option<Source>
     })
 }
 
-fn source_of(s: Settings, a: Attribute) -> Option<Source>
-    ensures { source_is result ≡ attribute_source s a }
+fn source_of(s: &Settings, a: Attribute) -> Option<Source>
+    ensures { source_is result ≡ attribute_source s.now a }
 {
     let at = a.attribute_desc;
     match a.buffer {
@@ -132,8 +132,8 @@ fn source_of(s: Settings, a: Attribute) -> Option<Source>
 }
 
 // An attribute of the first settings and one of the second, at the same location.
-fn fetches_alike(x: Settings, a: Attribute, y: Settings, b: Attribute) -> bool
-    ensures { (l : ℕ) → result ≡ location_alike (fetch_in x l a) (fetch_in y l b) }
+fn fetches_alike(x: &Settings, a: Attribute, y: &Settings, b: Attribute) -> bool
+    ensures { (l : ℕ) → result ≡ location_alike (fetch_in x.now l a) (fetch_in y.now l b) }
 {
     let f = a.attribute_desc.format_desc;
     let g = b.attribute_desc.format_desc;
@@ -141,8 +141,8 @@ fn fetches_alike(x: Settings, a: Attribute, y: Settings, b: Attribute) -> bool
 }
 
 // Where the second settings have no attribute at the location it is no part of the comparison.
-fn location_alike(x: Settings, y: Settings, location: usize) -> bool
-    ensures { result ≡ location_alike (fetch_at (vertices_of x) location) (fetch_at (vertices_of y) location) }
+fn location_alike(x: &Settings, y: &Settings, location: usize) -> bool
+    ensures { result ≡ location_alike (fetch_at (vertices_of x.now) location) (fetch_at (vertices_of y.now) location) }
 {
     match attribute_at(y, location) {
         None => true,
@@ -153,8 +153,8 @@ fn location_alike(x: Settings, y: Settings, location: usize) -> bool
     }
 }
 
-fn locations_alike(x: Settings, y: Settings) -> bool
-    ensures { result ≡ all_below 16 (λ l. location_alike (fetch_at (vertices_of x) l) (fetch_at (vertices_of y) l)) }
+fn locations_alike(x: &Settings, y: &Settings) -> bool
+    ensures { result ≡ all_below 16 (λ l. location_alike (fetch_at (vertices_of x.now) l) (fetch_at (vertices_of y.now) l)) }
 {
     let mut same = true;
     for l in 0..MAX_VERTEX_ATTRIBUTES {
@@ -167,5 +167,5 @@ fn locations_alike(x: Settings, y: Settings) -> bool
 pub fn alike(x: Settings, y: Settings) -> bool
     ensures { result ≡ alike_of same_bits (gl_of x) (gl_of y) }
 {
-    locations_alike(x, y) & (same_option_u32(x.program, y.program) & same_color(x.blend, y.blend))
+    locations_alike(&x, &y) & (same_option_u32(x.program, y.program) & same_color(x.blend, y.blend))
 }

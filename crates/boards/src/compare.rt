@@ -140,10 +140,12 @@ fn advance(s: Side, x: Record) -> Side
     ensures { result ≡ advanced s x }
 {
     if s.at < s.count {
+        let settings = s.settings;
+        let command = x.command;
         return Side {
+            count: s.count,
             at: s.at + 1,
-            settings: place(s.settings, x.command),
-            ..s
+            settings: place(settings, command),
         };
     }
     s
@@ -164,10 +166,9 @@ fn one_more(draws: usize) -> usize
 fn tell(m: Both, answer: Compared) -> Both
     ensures { result ≡ told answer m }
 {
-    Both {
-        answer: Some(answer),
-        ..m
-    }
+    let mut next = m;
+    next.answer = Some(answer);
+    next
 }
 
 // Both sides are at a draw.
@@ -175,12 +176,11 @@ fn compare_draws(m: Both, x: Record, y: Record) -> Both
     ensures { result ≡ at_draws same_bits m x y }
 {
     if alike(m.a.settings, m.b.settings) {
-        return Both {
-            a: advance(m.a, x),
-            b: advance(m.b, y),
-            draws: one_more(m.draws),
-            ..m
-        };
+        let mut next = m;
+        next.a = advance(m.a, x);
+        next.b = advance(m.b, y);
+        next.draws = one_more(m.draws);
+        return next;
     }
     tell(m, Compared::Differs(m.draws))
 }
@@ -198,12 +198,14 @@ fn turn(m: Both, x: Record, y: Record) -> Both
     let class_a = class_of(x.command);
     let class_b = class_of(y.command);
     if more_a & !is_draw(class_a) {
-        let a = advance(m.a, x);
-        return Both { a, ..m };
+        let mut next = m;
+        next.a = advance(m.a, x);
+        return next;
     }
     if more_b & !is_draw(class_b) {
-        let b = advance(m.b, y);
-        return Both { b, ..m };
+        let mut next = m;
+        next.b = advance(m.b, y);
+        return next;
     }
     if more_a & more_b {
         return compare_draws(m, x, y);

@@ -6,4 +6,5 @@ pub mod Slots
 pub mod Targets
 pub mod Plan
 pub mod Render
+pub mod Desc
 pub mod Witness

@@ -1,16 +1,18 @@
 // The vertex attributes of `set_render_pipeline`: its commands and what they are refused for. The
 // contracts cite specs/Vertex.antt.
-ghost use Rattle.std.specs.Prelude.{◌≤◌, ◌≡◌, map, get_or, length};
+ghost use Rattle.std.specs.Prelude.{◌≤◌, ◌≡◌, map, get_or, length, None};
 ghost use Rattle.records.specs.Start.{start_attribute};
 ghost use Rattle.slots.specs.Place.{Stands};
 ghost use Rattle.slots.specs.Vertex.{attributes_of};
-ghost use Rattle.pipeline.specs.Vertex.{set_attribute, unset_attribute, vertex_commands, vertex_too_many, vertex_out_of_range, vertex_absent, vertex_twice};
+ghost use Rattle.records.specs.declared.command.Command.TheVariants.{SetVertexAttribute};
+ghost use Rattle.pipeline.specs.Desc.{desc_in};
+ghost use Rattle.pipeline.specs.Vertex.{desc_or, unset_attribute, vertex_commands, vertex_too_many, vertex_out_of_range, vertex_absent, vertex_twice};
 
-use crate::desc::pipe_desc;
+use crate::desc::desc_in;
 use records::check::{bad_attribute, counted, scan_attributes, within};
 use records::command::{AttributeDesc, Command, VertexBufferDesc, VertexStepMode};
 use records::limits::{MAX_VERTEX_ATTRIBUTES, MAX_VERTEX_BUFFERS};
-use records::pipeline::{PrivateCapabilities, RenderPipeline};
+use records::pipeline::{PrivateCapabilities, RenderPipeline, VertexBufferLayout};
 use records::state::VertexState;
 
 fn attribute_in(attributes: &[AttributeDesc], i: u32) -> AttributeDesc
@@ -22,12 +24,16 @@ fn attribute_in(attributes: &[AttributeDesc], i: u32) -> AttributeDesc
         .unwrap_or(AttributeDesc::new())
 }
 
-fn set_attribute(p: &RenderPipeline, a: AttributeDesc) -> Command
-    ensures { result ≡ set_attribute p.now a }
+fn set_attribute(
+    layouts: &[VertexBufferLayout; MAX_VERTEX_BUFFERS],
+    count: usize,
+    a: AttributeDesc,
+) -> Command
+    ensures { result ≡ SetVertexAttribute None (desc_or (desc_in layouts.now count a.buffer_index)) a }
 {
     Command::SetVertexAttribute {
         buffer: None,
-        buffer_desc: pipe_desc(p, a.buffer_index).unwrap_or(VertexBufferDesc {
+        buffer_desc: desc_in(layouts, count, a.buffer_index).unwrap_or(VertexBufferDesc {
             step: VertexStepMode::Vertex,
             stride: 0,
         }),
@@ -45,7 +51,8 @@ pub(crate) fn unset_count(v: VertexState) -> u32
 pub(crate) fn unset_command_at(v: VertexState, k: u32) -> Command
     ensures { Stands result k (map unset_attribute (attributes_of v)) }
 {
-    let a = attribute_in(counted(&v.attributes, v.attribute_count), k);
+    let attributes = v.attributes;
+    let a = attribute_in(counted(&attributes, v.attribute_count), k);
     Command::UnsetVertexAttribute(a.location)
 }
 
@@ -69,8 +76,10 @@ pub(crate) fn vertex_command_at(
     ensures { Stands result k (vertex_commands caps p v) }
 {
     if caps.vertex_buffer_layout {
-        let a = attribute_in(counted(&p.vertex_attributes, p.vertex_attribute_count), k);
-        set_attribute(&p, a)
+        let attributes = p.vertex_attributes;
+        let layouts = p.vertex_buffers;
+        let a = attribute_in(counted(&attributes, p.vertex_attribute_count), k);
+        set_attribute(&layouts, p.vertex_buffer_count, a)
     } else {
         unset_command_at(v, k)
     }
@@ -88,7 +97,8 @@ pub fn vertex_too_many(p: RenderPipeline) -> bool
 pub fn vertex_out_of_range(p: RenderPipeline) -> bool
     ensures { result ≡ vertex_out_of_range p }
 {
-    let attributes = counted(&p.vertex_attributes, p.vertex_attribute_count);
+    let listed = p.vertex_attributes;
+    let attributes = counted(&listed, p.vertex_attribute_count);
     attributes.iter().any(|a| bad_attribute(*a))
 }
 
@@ -105,8 +115,11 @@ pub fn vertex_twice(p: RenderPipeline) -> bool
 pub fn vertex_absent(p: RenderPipeline) -> bool
     ensures { result ≡ vertex_absent p }
 {
-    let attributes = counted(&p.vertex_attributes, p.vertex_attribute_count);
+    let listed = p.vertex_attributes;
+    let layouts = p.vertex_buffers;
+    let count = p.vertex_buffer_count;
+    let attributes = counted(&listed, p.vertex_attribute_count);
     attributes
         .iter()
-        .any(|a| pipe_desc(&p, a.buffer_index).is_none())
+        .any(|a| desc_in(&layouts, count, a.buffer_index).is_none())
 }

@@ -1,35 +1,42 @@
 // The description of a vertex slot, in a pipeline and in the state. The contracts cite
 // specs/Vertex.antt.
-ghost use Rattle.std.specs.Prelude.{◌<◌, ◌≡◌};
-ghost use Rattle.slots.specs.Vertex.{is_instance, desc_at};
-ghost use Rattle.pipeline.specs.Vertex.{pipe_desc, changes, steps_by_instance, step_or, described_slot};
+ghost use Rattle.std.specs.Prelude.{◌≡◌};
+ghost use Rattle.slots.specs.Vertex.{is_instance};
+ghost use Rattle.pipeline.specs.Vertex.{changes, steps_by_instance, step_or, described_slot};
+ghost use Rattle.pipeline.specs.Desc.{desc_in, slot_desc};
 
 use records::check::counted;
 use records::command::{VertexBufferDesc, VertexStepMode};
-use records::pipeline::RenderPipeline;
-use records::state::{VertexSlot, VertexState};
+use records::limits::MAX_VERTEX_BUFFERS;
+use records::pipeline::VertexBufferLayout;
+use records::state::VertexSlot;
 use slots::step_of;
 
-// The pipeline's description of slot i.
-pub(crate) fn pipe_desc(p: &RenderPipeline, i: u32) -> Option<VertexBufferDesc>
-    ensures { result ≡ pipe_desc p.now i }
+// A pipeline's description of slot i, among those that are counted. The pipeline's array alone: where
+// the pipeline is lent, an index copies the whole of it (docs/DECISIONS.md, D76).
+pub(crate) fn desc_in(
+    layouts: &[VertexBufferLayout; MAX_VERTEX_BUFFERS],
+    count: usize,
+    i: u32,
+) -> Option<VertexBufferDesc>
+    ensures { result ≡ desc_in layouts.now count i }
 {
-    counted(&p.vertex_buffers, p.vertex_buffer_count)
-        .get(i as usize)?
-        .desc
+    counted(layouts, count).get(i as usize)?.desc
 }
 
-// The state's description of slot i, which has one where the mask says so.
-pub(crate) fn desc_at(v: &VertexState, i: u32) -> Option<VertexBufferDesc>
-    requires { i < 16 }
-    ensures { result ≡ desc_at v.now i }
+// The description of a slot of the state, which has one where `there` says so.
+pub(crate) fn slot_desc(
+    slot: VertexSlot,
+    there: bool,
+    by_instance: bool,
+) -> Option<VertexBufferDesc>
+    ensures { result ≡ slot_desc slot there by_instance }
 {
-    if !mask::test(v.described, i) {
+    if !there {
         return None;
     }
-    let slot = v.buffers[i as usize];
     Some(VertexBufferDesc {
-        step: step_of(mask::test(v.by_instance, i)),
+        step: step_of(by_instance),
         stride: slot.stride,
     })
 }

@@ -16,8 +16,9 @@ use records::state::FixedState;
 pub(crate) fn same_targets(f: FixedState, p: RenderPipeline) -> bool
     ensures { result ≡ same_targets (targets_of f) (targets_in p) }
 {
-    counted(&f.color_targets, f.color_target_count)
-        == counted(&p.color_targets, p.color_target_count)
+    let old = f.color_targets;
+    let new = p.color_targets;
+    counted(&old, f.color_target_count) == counted(&new, p.color_target_count)
 }
 
 fn target_in(targets: &[ColorTargetDesc], i: u32) -> ColorTargetDesc
@@ -33,7 +34,8 @@ fn target_in(targets: &[ColorTargetDesc], i: u32) -> ColorTargetDesc
 pub(crate) fn all_alike(p: RenderPipeline) -> bool
     ensures { result ≡ all_alike p }
 {
-    let targets = counted(&p.color_targets, p.color_target_count);
+    let listed = p.color_targets;
+    let targets = counted(&listed, p.color_target_count);
     let first = target_in(targets, 0);
     targets.iter().all(|t| *t == first)
 }
@@ -49,7 +51,8 @@ pub(crate) fn target_count(p: RenderPipeline, alike: bool) -> u32
 pub(crate) fn target_command_at(p: RenderPipeline, alike: bool, k: u32) -> Command
     ensures { alike ≡ all_alike p → Stands result k (target_commands (targets_in p)) }
 {
-    let targets = counted(&p.color_targets, p.color_target_count);
+    let listed = p.color_targets;
+    let targets = counted(&listed, p.color_target_count);
     if alike {
         Command::SetColorTarget {
             draw_buffer_index: None,

@@ -52,6 +52,25 @@ fn begin_render<W: Write>(
     render_answer(plan, s)
 }
 
+// The line of a render pass, whose label and queries go into these runs.
+#[inline(never)]
+fn read_render<W: Write>(
+    out: &mut Printer<W>,
+    room: usize,
+    bytes: &mut [u8],
+    line: &mut Line,
+    label: &mut [u8],
+    set: &mut [u32],
+    caps: PrivateCapabilities,
+    s: State,
+) -> Result<Answer, Wrong> {
+    let a = take_render_pass(line, label, set)?;
+    line.end()?;
+    Ok(begin_render(out, room, bytes, label, set, a, caps, s))
+}
+
+// Label and queries stand in a frame of their own: beside the other locals they are filled twice.
+#[inline(never)]
 pub(crate) fn play_begin_render_pass<W: Write>(
     out: &mut Printer<W>,
     room: usize,
@@ -62,9 +81,7 @@ pub(crate) fn play_begin_render_pass<W: Write>(
 ) -> Result<Answer, Wrong> {
     let mut label = [0u8; MAX_LABEL];
     let mut set = [0u32; MAX_NUMBERS];
-    let a = take_render_pass(line, &mut label, &mut set)?;
-    line.end()?;
-    Ok(begin_render(out, room, bytes, &label, &set, a, caps, s))
+    read_render(out, room, bytes, line, &mut label, &mut set, caps, s)
 }
 
 // The beginning of a compute pass whose label and queries are read.

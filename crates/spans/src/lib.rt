@@ -39,13 +39,14 @@ fn wakes(v: VertexState, moves: bool, i: u32) -> bool
 fn masks(v: VertexState, low: u32, high: u32) -> (u32, u32)
     ensures { (result.0 ≡ always_mask v low high) × (result.1 ≡ sometimes_mask v low high) }
 {
+    let instances = v.instances;
     let always = mask::mask_where(16, |i| {
-        let own = v.instances[i as usize];
+        let own = instances[i as usize];
         let outside = (own < low) | (high < own);
         wakes(v, outside, i)
     });
     let sometimes = mask::mask_where(16, |i| {
-        let own = v.instances[i as usize];
+        let own = instances[i as usize];
         let apart = !((low == own) & (high == own));
         wakes(v, apart, i)
     });

@@ -9,6 +9,7 @@ use records::state::{DrawState, IndexFormat};
 use text::field::{Field, Shown};
 
 // What is shown of a place, where it is there.
+#[inline(always)]
 pub(crate) fn row<const N: usize>(there: bool, name: usize, fields: [Field; N]) -> Option<Shown>
     ensures { result ≡ told_of there name fields.entry }
 {
@@ -18,7 +19,9 @@ pub(crate) fn row<const N: usize>(there: bool, name: usize, fields: [Field; N]) 
     None
 }
 
-// Element i, or what stands for those past the end.
+// Element i, or what stands for those past the end. Inlined: a part of the state that is lent to a function
+// of its own is copied for it.
+#[inline(always)]
 pub(crate) fn at<T: Copy>(items: &[T], i: u32, start: T) -> T
     ensures { result ≡ get_or items.now i start }
 {

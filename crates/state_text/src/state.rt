@@ -49,9 +49,9 @@ pub(crate) fn place_of(k: u32) -> Place
 }
 
 // What is shown of place i of a row.
-pub(crate) fn told(s: State, row: usize, i: u32) -> Option<Shown>
+pub(crate) fn told(s: &State, row: usize, i: u32) -> Option<Shown>
     requires { row ≤ 23 }
-    ensures { TellsRow (row_at s row) i result }
+    ensures { TellsRow (row_at s.now row) i result }
 {
     let draw = s.draw;
     let pass = s.pass;
@@ -98,17 +98,17 @@ fn put_told(line: &mut [u8], told: Option<Shown>) -> usize
 }
 
 // The state's line k, where it is there, at the end of `line`.
-pub(crate) fn put_state_line(line: &mut [u8], s: State, k: u32) -> usize
+pub(crate) fn put_state_line(line: &mut [u8], s: &State, k: u32) -> usize
     requires { length line.old ≡ 384 }
-    ensures { Put (state_line s k) line.old 384 line.new result }
+    ensures { Put (state_line s.now k) line.old 384 line.new result }
 {
     let place = place_of(k);
     let told = told(s, place.row, place.i);
     put_told(line, told)
 }
 
-fn line_length(s: State, k: u32) -> usize
-    ensures { (result ≡ length (state_line s k)) × (result ≤ 384) }
+fn line_length(s: &State, k: u32) -> usize
+    ensures { (result ≡ length (state_line s.now k)) × (result ≤ 384) }
 {
     let mut line = [0u8; 384];
     let start = put_state_line(&mut line, s, k);
@@ -116,8 +116,8 @@ fn line_length(s: State, k: u32) -> usize
 }
 
 // How many bytes the state's lines have together.
-pub(crate) fn state_length(s: State) -> usize
-    ensures { result ≡ length (state_text s) }
+pub(crate) fn state_length(s: &State) -> usize
+    ensures { result ≡ length (state_text s.now) }
 {
     let mut total = 0;
     for k in 0..STATE_PLACES {

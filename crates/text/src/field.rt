@@ -45,7 +45,8 @@ pub struct Shown {
 }
 
 impl Shown {
-    // The first fourteen of these fields.
+    // The first fourteen of these fields. Inlined: the array is made where it is used.
+    #[inline(always)]
     pub fn new<const N: usize>(name: usize, fields: [Field; N]) -> Shown
         ensures { result ≡ built name (length (take 14 fields.entry)) fields.entry }
     {

@@ -8,8 +8,8 @@ use Rattle.boards.proofs.alike.location_alike.Goals as goal
 
 pub returns-in-Some-attribute_at : goal.returns-in-Some-attribute_at
 returns-in-Some-attribute_at c =
-    let x = c.args.x in
-    let y = c.args.y in
+    let x = c.args.x.now in
+    let y = c.args.y.now in
     let l = c.args.location in
     c.fetches_alike.ensures l
     ∙ ap₂ (λ (a b : Option Attribute). location_alike (fetch_of l (λ i. buffer_of (buffer_in x i)) (attribute_of a)) (fetch_of l (λ i. buffer_of (buffer_in y i)) (attribute_of b)))

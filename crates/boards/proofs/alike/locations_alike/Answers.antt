@@ -19,4 +19,4 @@ unfolding all_below
 loop-l-init c = refl
 
 pub loop-l-preserved : goal.loop-l-preserved
-loop-l-preserved c = one_more c.args.x c.args.y _ _ _ c.location_alike-same.ensures c.loop-l.invariant
+loop-l-preserved c = one_more c.args.x.now c.args.y.now _ _ _ c.location_alike-same.ensures c.loop-l.invariant

@@ -9,4 +9,4 @@ returns c =
     let t = c.told-told in
     let p = c.place_of-place in
     let a = c.args in
-    rw (line-found a.s a.k, ← ap (found (state_rows a.s)) p.ensures.0, ← t.ensures.line) c.put_told.ensures
+    rw (line-found a.s.now a.k, ← ap (found (state_rows a.s.now)) p.ensures.0, ← t.ensures.line) c.put_told.ensures

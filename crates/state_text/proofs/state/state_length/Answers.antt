@@ -16,7 +16,7 @@ loop-k-preserved c =
     let a = c.args in
     let r = c.line_length-total.ensures in
     let e : l.k + 1 ≡ suc l.k = omega arith in
-    let n = next-long l.k (state_line a.s) in
+    let n = next-long l.k (state_line a.s.now) in
     (omega (arith, r.1, l.invariant.0), rw e (omega (arith, n, l.invariant.1, r.0)))
 
 pub returns : goal.returns
