@@ -36,41 +36,41 @@ pub fn answer_number<N: Copy>(answer: Option<N>) -> u8
 pub fn read_compare_func(n: u32) -> Option<CompareFunction>
     ensures { result ≡ compare_read n }
 {
-    read(n)
+    read::<CompareFunction>(n)
 }
 
 pub fn read_primitive_topology(n: u32) -> Option<PrimitiveTopology>
     ensures { result ≡ topology_read n }
 {
-    read(n)
+    read::<PrimitiveTopology>(n)
 }
 
 pub fn read_front_face(n: u32) -> Option<FrontFace>
     ensures { result ≡ front_read n }
 {
-    read(n)
+    read::<FrontFace>(n)
 }
 
 pub fn read_cull_mode(n: u32) -> Option<CullMode>
     ensures { result ≡ cull_read n }
 {
-    read(n)
+    read::<CullMode>(n)
 }
 
 pub fn read_stencil_op(n: u32) -> Option<StencilOperation>
     ensures { result ≡ stencil_op_read n }
 {
-    read(n)
+    read::<StencilOperation>(n)
 }
 
 pub fn read_blend_factor(n: u32) -> Option<BlendFactor>
     ensures { result ≡ factor_read n }
 {
-    read(n)
+    read::<BlendFactor>(n)
 }
 
 pub fn read_blend_operation(n: u32) -> Option<BlendOperation>
     ensures { result ≡ operation_read n }
 {
-    read(n)
+    read::<BlendOperation>(n)
 }
