@@ -37,10 +37,11 @@ pub refused : (answered (counted 9) 0 ≡ Err TooManyPieces) × (answered (count
 unfolding answered
 refused = (refl, refl)
 
--- why a larger budget is compared with one above 0: for 0 no order is returned, and no price
-pub budget-0 : IsOkAnd (answered (counted 3) 0) (λ r. IsOkAnd (answered (counted 3) 1) (λ s. s.price ≤ r.price)) → ⊥
-unfolding answered
-budget-0 h = h
+-- why a larger budget is compared with one above 0: for 0 no order is returned, and no price, and that of a budget of 1 is above 0
+pub budget-0 : (answered (counted 3) 0 ≡ Err NoBudget) × (IsOkAnd (answered (counted 3) 1) (λ s. 0 < s.price))
+    × (IsOkAnd (answered (counted 3) 0) (λ r. IsOkAnd (answered (counted 3) 1) (λ s. s.price ≤ r.price)) → ⊥)
+unfolding answered sum_to along among distinct cheapest from picks each arranged
+budget-0 = (refl, omega arith, λ h. h)
 
 -- why all orders must be tried for the least price: the order 0, 2, 1 costs less than what a budget of 1 gives
 pub not_least : IsOkAnd (answered (counted 3) 1) (λ r. costs (counted 3) (0 ∷ 2 ∷ 1 ∷ []) < r.price)
