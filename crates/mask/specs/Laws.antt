@@ -1,5 +1,6 @@
 -- The laws of masks: `test-set`, `test-clear`, `test-or`, `test-and`, `test-without` (a place after each operation), `test-beyond` (a mask has no place past its width),
 -- `ext` (two masks with the same places are the same), `ones-places` (the count is the length of the list of places), `places-lowest` (the lowest place comes first), `nth-rest`. Assumes nothing.
+-- `first_place`: what `next` cites.
 use Rattle.std.specs.Prelude.{ℕ, zero, suc, ◌+◌, ◌-◌, ◌*◌, ◌/◌, ◌%◌, ◌^◌, ◌≤◌, ◌<◌, min, max, ◌≡◌, refl, Bool, true, false, not, ◌&&◌, ◌||◌, ◌⊎◌, List, [], ◌∷◌, ltb, eqb, length, get_or, take}
 use Rattle.std.proofs.Common.{sym, ap, ap₂, ◌∙◌, subst, inl, inr, not-suc-le-zero, le_of_suc-le-suc, one-mul, mod-eq_of_lt, mod-lt, pow-suc, zero-lt-suc, div-add-mod', mul-div_cancel, eq-zero-or-pos, add-zero, add_comm, lt_of_lt_of_le, add-suc, suc-add, mul-one, lt_irrefl, mul_assoc, zero-add, zero-mul, arith, ne_eqb, lt-ltb, le-ltb, ltb-true, ltb-false, length-take, pow_pos, pow_mono}
 use Rattle.std.proofs.Math.Nat.{mul-mod_left, zero-min, min-zero, zero-max}
@@ -394,3 +395,5 @@ and_lt k a b h = omega (arith, and_le_r a b)
 pub set-lt : (k m j : ℕ) → m < 2 ^ k → j < k → k ≤ 32 → set_bit m j < 2 ^ k
 unfolding set_bit
 set-lt k m j h l w = or_lt k m (bit_at j) h (subst (λ (x : ℕ). x < 2 ^ k) (sym (bit-at j (omega arith))) (pow-lt l))
+
+pub ruleset first_place = (places-lowest, places-none)

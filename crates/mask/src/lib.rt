@@ -111,6 +111,7 @@ impl Iterator for Places {
 
     ghost remaining = { item_count places_left };
 
+    #[tactic(auto, using(crate::specs::Laws::first_place))]
     fn next(&mut self) -> Option<u32> {
         if self.left == 0 {
             return None;

@@ -1,5 +1,5 @@
 -- Theorems on the truncations of `Convert`, for a reader and for other crates. Those on bits stand in specs/Agree.antt. Assumes nothing.
--- `trunc-signed`, `trunc-unsigned`: at every width a truncation is the logic's own account of Rust's `as`. `convert-is`: so is a conversion.
+-- `trunc-signed`, `trunc-unsigned`: at every width a truncation is the logic's own account of Rust's `as`. `convert-is`: so is a conversion. `conversions`: what the functions cite.
 use Rattle.std.specs.Prelude.{◌≡◌, ℕ, zero, suc, ◌-◌, ◌*◌, ◌/◌, ◌^◌, ◌<◌, ◌≤◌, min, Bool, true, false, cond, not, T, ℤ, pos, negsuc, neg_ℤ, nat_lt, refl, Float}
 use Rattle.std.proofs.Common.{sym, ap, ◌∙◌, zero-le, zero-lt-suc, arith, ltb→lt, nltb→le, le-ltb}
 use Rattle.std.specs.Float.{nan, inf, fin, Format, round_to_format}
@@ -87,3 +87,12 @@ unfolding convert_to round_to_format
 convert-is f nan = refl
 convert-is f (inf s) = refl
 convert-is f (fin s m e) = refl
+
+-- ---- what the functions cite, at their width
+pub trunc_signed_32 : (x : Float) → trunc_to signed 32 x ≡ to_signed 31 x
+trunc_signed_32 x = trunc-signed 31 x
+
+pub trunc_unsigned_32 : (x : Float) → trunc_to unsigned 32 x ≡ pos (to_unsigned 32 x)
+trunc_unsigned_32 x = trunc-unsigned 32 x
+
+pub ruleset conversions = (trunc_signed_32, trunc_unsigned_32, convert-is)
